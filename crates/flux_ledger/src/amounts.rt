@@ -1,0 +1,40 @@
+// A list of numbers that contracts see as such.
+ghost use Rattle.std.specs.Prelude.{◌≡◌, length};
+
+use std::marker::Model;
+
+/// A number for each patch. Contracts see it as the list of its numbers.
+#[derive(Debug, Drop)]
+pub struct Amounts {
+    values: Vec<u64>,
+}
+
+impl Model for Amounts {
+    ghost use Rattle.std.specs.Prelude.{List, ℕ};
+
+    ghost Value = { List ℕ };
+
+    ghost view = { λ a. a.values.items };
+}
+
+impl Amounts {
+    /// The numbers of a vector. Takes no memory.
+    pub fn from_vec(values: Vec<u64>) -> Amounts
+        ensures { result ≡ values.items }
+    {
+        Amounts { values }
+    }
+
+    /// Gives the vector back. Takes no memory.
+    pub fn into_vec(self) -> Vec<u64>
+        ensures { result.items ≡ self }
+    {
+        self.values
+    }
+
+    pub fn as_slice(&self) -> &[u64]
+        ensures { result.now ≡ self.now }
+    {
+        self.values.as_slice()
+    }
+}

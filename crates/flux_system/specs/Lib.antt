@@ -1,0 +1,4 @@
+pub mod Sums
+pub mod System
+pub mod Validity
+pub mod Limits

@@ -1,0 +1,44 @@
+-- The settled ledger: the first patch of the greatest residual shoots, again and again while that residual reaches the threshold
+-- (the order of progressive refinement, Cohen, Chen, Wallace and Greenberg 1988).
+use Rattle.std.specs.Prelude.{ℕ, ◌+◌, ◌*◌, ◌==◌, Bool, if◌then◌else◌, nat_le, max, List, fold, position, unwrap_or, slice_index, replicate}
+use Rattle.std.proofs.Common.{zero, suc}
+use Rattle.flux_system.specs.Sums.{sum_below}
+use Rattle.flux_system.specs.System.{FluxSystem, scale, patches}
+use Rattle.flux_ledger.specs.declared.ledger.Ledger.{Ledger}
+use Rattle.shot_core.specs.Shots.{shot}
+
+-- the greatest of some values, 0 where there are none
+abbrev pub greatest : List ℕ → ℕ
+greatest values = fold max 0 values
+
+-- the first place of the greatest value
+abbrev pub brightest : List ℕ → ℕ
+brightest values = unwrap_or (position (λ value. value == greatest values) values) 0
+
+-- some residual reaches the threshold
+abbrev pub reaches : FluxSystem → Ledger → Bool
+reaches s l = nat_le s.threshold (slice_index l.residual (brightest l.residual))
+
+-- so many shots at most, each of the brightest patch, while its residual reaches the threshold
+abbrev pub settled_within : ℕ → FluxSystem → Ledger → Ledger
+settled_within zero s l = l
+settled_within (suc shots) s l = if reaches s l then settled_within shots s (shot s l (brightest l.residual)) else l
+
+-- what is not shot yet, in parts of a nanolumen, fractions with it: each shot lowers it by what the patch keeps, so there are fewer shots than this
+abbrev pub unshot : FluxSystem → Ledger → ℕ
+unshot s l = sum_below (patches s) (λ j. scale * slice_index l.residual j + slice_index l.err j)
+
+-- the ledger that all those shots lead to
+abbrev pub settled : FluxSystem → Ledger → Ledger
+settled s l = settled_within (unshot s l) s l
+
+-- a ledger of which nothing was taken yet
+abbrev pub untouched : FluxSystem → List ℕ → Ledger
+untouched s direct = record {
+  direct = direct;
+  taken = replicate (patches s) 0;
+  residual = direct;
+  err = replicate (patches s) 0;
+  parts = 1;
+  wins = 0;
+}

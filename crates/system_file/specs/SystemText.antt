@@ -1,0 +1,56 @@
+-- The system text: the tests of its lines in their order, the first that fails is the refusal. The format is this project's own.
+use Rattle.std.specs.Prelude.{ℕ, ◌+◌, ◌&&◌, nat_le, List, [], ◌∷◌, ◌++◌, length, slice_index, map, codes, Result}
+use Rattle.std.specs.List.{range_with_len, flat_map}
+use Rattle.std.specs.Option.{option_map}
+use Rattle.std.specs.Str.{bytes_eq}
+use Rattle.duties.specs.Duties.{Duty, unless, first, each, judged}
+use Rattle.flux_system.specs.declared.TheConstants.{MOST_PATCHES}
+use Rattle.flux_system.specs.declared.faults.SystemFault.{SystemFault}
+use Rattle.flux_system.specs.declared.faults.SystemFault.TheVariants as system
+use Rattle.flux_system.specs.System.{FluxSystem}
+use Rattle.flux_system.specs.Validity.{system_duties}
+use Rattle.lux_lines.specs.Lines.{lines, line_text}
+use Rattle.system_file.specs.declared.faults.SysFault.{SysFault}
+use Rattle.system_file.specs.declared.faults.SysFault.TheVariants.{Header, Trailing, Size, Threshold, Reflectance, RowTotal, Memory}
+use Rattle.system_file.specs.Rows.{numbers, row_duty}
+
+-- what line 2 says of the number of patches, 0 where it says nothing
+abbrev pub count : List ℕ → ℕ
+count text = slice_index (numbers (line_text text 1)) 0
+
+-- the flux system that the lines say
+abbrev pub system_in : List ℕ → FluxSystem
+system_in text = record {
+  threshold = slice_index (numbers (line_text text 2)) 0;
+  reflectance = numbers (line_text text 4);
+  shares = flat_map (λ i. numbers (line_text text (5 + i))) (range_with_len 0 (count text));
+}
+
+-- the direct flux that line 4 says
+abbrev pub direct_in : List ℕ → List ℕ
+direct_in text = numbers (line_text text 3)
+
+-- a refusal of a flux system as one of its text
+abbrev pub of_system : SystemFault → SysFault
+of_system (system.Size n) = Size n
+of_system system.Threshold = Threshold
+of_system (system.Reflectance patch) = Reflectance patch
+of_system (system.RowTotal patch) = RowTotal patch
+of_system system.Memory = Memory
+
+unfoldable pub text_duties : List ℕ → List (Duty SysFault)
+text_duties text =
+    unless (bytes_eq (line_text text 0) (codes "lux-system 1")) Header
+    ∷ row_duty text 1 (codes "patches") 1
+    ∷ unless (nat_le 1 (count text) && nat_le (count text) MOST_PATCHES) (Size (count text))
+    ∷ row_duty text 2 (codes "threshold") 1
+    ∷ row_duty text 3 (codes "direct") (count text)
+    ∷ row_duty text 4 (codes "reflectance") (count text)
+    ∷ each (count text) (λ i. row_duty text (5 + i) (codes "shares") (count text))
+    ∷ unless (nat_le (length (lines text)) (5 + count text)) (Trailing (6 + count text))
+    ∷ option_map of_system (first (system_duties (system_in text)))
+    ∷ []
+
+-- the flux system and the direct flux of a text, or its refusal
+abbrev pub system_of : List ℕ → Result (FluxSystem × List ℕ) SysFault
+system_of text = judged (text_duties text) (system_in text, direct_in text)
