@@ -139,6 +139,7 @@ impl System {
         requires { length direct.now ≡ patches self.now }
         ensures { result ≡ judged (limit_duties self.now direct.now) (bound_of_takes self.now direct.now) }
     {
+        prove_eq!(direct.len(), self.len());
         let sum = total_flux(direct);
         if sum > MOST_FLUX {
             return Err(LimitFault::FluxTooLarge { sum });
