@@ -1,10 +1,9 @@
 -- Which limit a direct flux is past.
-use Rattle.std.proofs.Common.{◌≡◌, ℕ, ◌*◌, ◌/◌, ◌<◌, ◌≤◌, List, length, Some, None, Ok, Err, Result, sym, ap, subst, ◌∙◌, arith}
+use Rattle.std.proofs.Common.{◌≡◌, ℕ, ◌<◌, ◌≤◌, List, Ok, Err, sym, ap, subst, ◌∙◌, arith}
 use Rattle.std.specs.List.{sum}
 use Rattle.std.proofs.lemmas.Bool.{le-leb, lt-leb}
-use Rattle.duties.specs.Duties.{first, judged}
+use Rattle.duties.specs.Duties.{judged}
 use Rattle.duties.proofs.Orders.{this_met, this_fails, none_left, unless_holds, unless_fails, judged_ok, judged_err}
-use Rattle.flux_system.specs.declared.faults.LimitFault.{LimitFault}
 use Rattle.flux_system.specs.declared.faults.LimitFault.TheVariants.{FluxTooLarge, TooManyTakes}
 use Rattle.flux_system.specs.System.{FluxSystem, bound_of_takes}
 use Rattle.flux_system.specs.Limits.{limit_duties}

@@ -172,3 +172,10 @@ fn total_flux(direct: &[u64]) -> u128
 {
     direct.iter().map(|flux| u128::from(*flux)).sum()
 }
+
+// Threads share systems: that they may is proved here, and not where they first do.
+fn ask_shared<T: Send + Sync>(_value: &T) {}
+
+fn ask_system_shared(system: &System) {
+    ask_shared(system);
+}

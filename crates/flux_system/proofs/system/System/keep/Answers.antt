@@ -1,4 +1,4 @@
-use Rattle.std.proofs.Common.{◌≡◌, ◌<◌, ℕ, length, get_or, ap, ◌∙◌, arith, rules}
+use Rattle.std.proofs.Common.{◌<◌, ap, ◌∙◌, arith}
 use Rattle.std.proofs.lemmas.List.{get_or_read}
 use Rattle.flux_system.specs.System.{FluxSystem, patches, keep}
 use Rattle.flux_system.proofs.Keeping.{held-length, held-keep, keep-above}

@@ -1,4 +1,4 @@
-use Rattle.std.proofs.Common.{◌≡◌, ℕ, List, length, get_or, ap, ◌∙◌, arith}
+use Rattle.std.proofs.Common.{ℕ, List, length, get_or, ap, ◌∙◌, arith}
 use Rattle.flux_system.specs.Sums.{least_below}
 use Rattle.flux_system.specs.System.{FluxSystem, least_keep}
 use Rattle.flux_system.proofs.Keeping.{held-length, held-least, least_keep-above}

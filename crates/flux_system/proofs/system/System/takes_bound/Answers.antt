@@ -1,6 +1,6 @@
 use Rattle.std.proofs.Common.{◌≡◌, ℕ, ◌*◌, ◌/◌, ap, ◌∙◌}
 use Rattle.std.specs.List.{sum}
-use Rattle.flux_system.specs.System.{FluxSystem, scale, least_keep, bound_of_takes}
+use Rattle.flux_system.specs.System.{FluxSystem, scale, least_keep}
 use Rattle.flux_system.proofs.Limits.{past_flux, past_takes, within}
 use Rattle.flux_system.proofs.system.System.takes_bound.Goals as goal
 
