@@ -1,0 +1,73 @@
+// Ledgers: settled, and as text.
+use crate::texts::TWO_PATCHES_LEDGER;
+use flux_ledger::{Amounts, Ledger, ledger_text};
+use flux_system::System;
+use shot_core::{Settler, serial, settle};
+use std::test::Fail;
+
+#[test]
+fn two_patches_settle_by_four_takes(rt: HostRuntime) -> Result<(), Fail> {
+    let alloc = rt.alloc();
+    let system = System::new(alloc, &[500, 500], &[0, 500_000_000, 500_000_000, 0], 10)?;
+    let ledger = serial(alloc, &system, &[1_000, 0])?;
+    assert_eq!(rt; ledger.direct.as_slice(), [1_000, 0].as_slice());
+    assert_eq!(rt; ledger.taken.as_slice(), [1_062, 265].as_slice());
+    assert_eq!(rt; ledger.residual.as_slice(), [4, 0].as_slice());
+    assert_eq!(rt; ledger.err.as_slice(), [250_000_000_000, 500_000_000_000].as_slice());
+    assert_eq!(rt; (ledger.parts, ledger.wins), (1, 4));
+    let text = ledger_text(alloc, &ledger)?;
+    assert_eq!(rt; text.as_slice(), TWO_PATCHES_LEDGER.as_bytes());
+    Ok(())
+}
+
+#[test]
+fn what_came_is_kept_or_left(rt: HostRuntime) -> Result<(), Fail> {
+    let keep: u64 = 750_000_000_000;
+    let absorbed = (1_062 + 265) * keep;
+    let remainders = 250_000_000_000 + 500_000_000_000;
+    let residual = 4 * 1_000_000_000_000;
+    assert_eq!(rt; absorbed, 995_250_000_000_000);
+    assert_eq!(rt; absorbed + remainders + residual, 1_000 * 1_000_000_000_000);
+    Ok(())
+}
+
+#[test]
+fn a_patch_that_lights_itself_settles(rt: HostRuntime) -> Result<(), Fail> {
+    let alloc = rt.alloc();
+    let system = System::new(alloc, &[950], &[400_000_000], 100)?;
+    let ledger = serial(alloc, &system, &[1_000])?;
+    assert_eq!(rt; ledger.taken.as_slice(), [1_524].as_slice());
+    assert_eq!(rt; ledger.residual.as_slice(), [55].as_slice());
+    assert_eq!(rt; ledger.err.as_slice(), [120_000_000_000].as_slice());
+    assert_eq!(rt; ledger.wins, 3);
+    Ok(())
+}
+
+#[test]
+fn a_settled_ledger_stays(rt: HostRuntime) -> Result<(), Fail> {
+    let alloc = rt.alloc();
+    let system = System::new(alloc, &[500, 500], &[0, 500_000_000, 500_000_000, 0], 10)?;
+    let mut settler = Settler::new(alloc, system.len())?;
+    let mut ledger = serial(alloc, &system, &[1_000, 0])?;
+    settle(&system, &mut settler, &mut ledger);
+    assert_eq!(rt; ledger.taken.as_slice(), [1_062, 265].as_slice());
+    assert_eq!(rt; ledger.wins, 4);
+    Ok(())
+}
+
+#[test]
+fn a_ledger_text_has_its_greatest_numbers(rt: HostRuntime) -> Result<(), Fail> {
+    let alloc = rt.alloc();
+    let one = |value: u64| -> Result<Amounts, Fail> { Ok(Amounts::from_vec([value].to_vec(alloc)?)) };
+    let ledger = Ledger {
+        direct: one(u64::MAX)?,
+        taken: one(0)?,
+        residual: one(10)?,
+        err: one(1)?,
+        parts: u32::MAX,
+        wins: u64::MAX,
+    };
+    let text = ledger_text(alloc, &ledger)?;
+    assert_eq!(rt; text.as_slice(), b"lux-ledger 1\npatches 1\nwins 18446744073709551615\nparts 4294967295\npatch 0 direct 18446744073709551615 taken 0 residual 10 err 1\n".as_slice());
+    Ok(())
+}
