@@ -1,6 +1,7 @@
 -- A flux system: patches that pass flux on to one another, in whole numbers
 -- (the discrete radiosity equation of Cohen, Chen, Wallace and Greenberg 1988).
-use Rattle.std.specs.Prelude.{ℕ, ◌+◌, ◌-◌, ◌*◌, ◌/◌, List, length, slice_index, sum}
+use Rattle.std.specs.Prelude.{ℕ, ◌+◌, ◌-◌, ◌*◌, ◌/◌, List, map, length, slice_index, sum}
+use Rattle.std.specs.List.{range_with_len}
 use Rattle.flux_system.specs.Sums.{sum_below, least_below}
 
 -- a threshold in nanolumens, a reflectance for each patch in per mille, and the shares row after row, in parts of 10^9:
@@ -21,6 +22,10 @@ patches s = length s.reflectance
 abbrev pub share : FluxSystem → ℕ → ℕ → ℕ
 share s i j = slice_index s.shares (i * patches s + j)
 
+-- row i of the shares
+abbrev pub row_of : FluxSystem → ℕ → List ℕ
+row_of s i = map (share s i) (range_with_len 0 (patches s))
+
 -- the sum of row i of the shares
 abbrev pub row_total : FluxSystem → ℕ → ℕ
 row_total s i = sum_below (patches s) (share s i)
@@ -36,6 +41,10 @@ passed s i = sum_below (patches s) (coefficient s i)
 -- what patch i keeps of one nanolumen that it takes
 abbrev pub keep : FluxSystem → ℕ → ℕ
 keep s i = scale - passed s i
+
+-- what each patch keeps
+abbrev pub all_kept : FluxSystem → List ℕ
+all_kept s = map (keep s) (range_with_len 0 (patches s))
 
 -- the least that a patch keeps
 abbrev pub least_keep : FluxSystem → ℕ

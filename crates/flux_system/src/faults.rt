@@ -25,6 +25,22 @@ pub enum SystemFault {
     Memory,
 }
 
+impl From<AllocError> for SystemFault {
+    ghost from_gives = { λ _ fault. fault ≡ Memory };
+
+    fn from(_error: AllocError) -> SystemFault {
+        SystemFault::Memory
+    }
+}
+
+impl<T: Drop> From<AllocFailed<T>> for SystemFault {
+    ghost from_gives = { λ _ fault. fault ≡ Memory };
+
+    fn from(_error: AllocFailed<T>) -> SystemFault {
+        SystemFault::Memory
+    }
+}
+
 /// Why a direct flux is past the limits of a flux system. The variants stand in the order of the tests.
 #[derive(Clone, Copy, Debug, PartialEq, Eq, Error)]
 pub enum LimitFault {

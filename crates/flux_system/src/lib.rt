@@ -6,6 +6,7 @@
 #![tactic(auto)]
 
 mod faults;
+mod kept;
 mod system;
 
 pub use faults::{LimitFault, SystemFault};

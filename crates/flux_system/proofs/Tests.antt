@@ -1,0 +1,122 @@
+-- What the tests of a system say: which one refuses it, and that it is valid where none does.
+use Rattle.std.proofs.Common.{◌≡◌, ℕ, ◌+◌, ◌*◌, ◌<◌, ◌≤◌, ◌^◌, Bool, true, false, leb, eqb, ◌&&◌, List, [], ◌∷◌, length, Option, Some, None, map, zero, suc, refl, sym, ap, ◌∙◌, arith}
+use Rattle.std.specs.Prelude.{slice_index}
+use Rattle.std.specs.List.{range_with_len}
+use Rattle.std.proofs.lemmas.Bool.{leb-true, ltb-true, eqb-true, le-leb, lt-leb, lt-ltb, le-ltb, eq-eqb, ne_eqb, and_parts, and_from, and_left, and_right}
+use Rattle.duties.specs.Duties.{first, each, unless}
+use Rattle.duties.proofs.Orders.{this_met, this_fails, unless_holds, unless_fails}
+use Rattle.flux_system.specs.declared.TheConstants.{MOST_PATCHES}
+use Rattle.flux_system.specs.declared.faults.SystemFault.{SystemFault}
+use Rattle.flux_system.specs.declared.faults.SystemFault.TheVariants.{Size, Threshold, Reflectance, RowTotal}
+use Rattle.flux_system.specs.System.{FluxSystem, patches, row_total}
+use Rattle.flux_system.specs.Validity.{IsSystem, reflectance_duty, row_duty, system_duties}
+
+module _ {F : Type 0} where
+  -- where no duty fails, neither the front one nor a later one does
+  front_and_later : (duty : Option F) (later : List (Option F)) → first (duty ∷ later) ≡ None → (duty ≡ None) × (first later ≡ None)
+  unfolding first
+  front_and_later None later h = (refl, h)
+  front_and_later (Some f) later h = cc
+
+  listed_met : (duty : ℕ → Option F) (a n k : ℕ) → first (map duty (range_with_len a n)) ≡ None → k < n → duty (a + k) ≡ None
+  listed_met duty a zero k h lt = absurd (omega arith)
+  listed_met duty a (suc n) zero h lt = let at : a + zero ≡ a = omega arith in rw at (front_and_later (duty a) _ h).0
+  listed_met duty a (suc n) (suc k) h lt =
+      let at : (a + 1) + k ≡ a + suc k = omega arith in
+      ap duty (sym at) ∙ listed_met duty (a + 1) n k (front_and_later (duty a) _ h).1 (omega arith)
+
+  -- where all of many duties are met, each is
+  pub each_met : (duty : ℕ → Option F) (n k : ℕ) → each n duty ≡ None → k < n → duty k ≡ None
+  unfolding each
+  each_met duty n k h lt = let at : 0 + k ≡ k = omega arith in ap duty (sym at) ∙ listed_met duty 0 n k h lt
+
+  -- a test that doesn't fail is passed
+  pub unless_met : (test : Bool) (f : F) → unless test f ≡ None → test ≡ true
+  unfolding unless
+  unless_met true f h = refl
+  unless_met false f h = cc
+
+  pub first_of_one : (duty : Option F) → first (duty ∷ []) ≡ duty
+  unfolding first
+  first_of_one None = refl
+  first_of_one (Some f) = refl
+
+-- the first two tests
+abbrev has_size : FluxSystem → Bool
+has_size s = leb 1 (patches s) && leb (patches s) MOST_PATCHES && eqb (length s.shares) (patches s * patches s)
+
+abbrev has_threshold : FluxSystem → Bool
+has_threshold s = leb 1 s.threshold && leb s.threshold (10 ^ 16)
+
+pub size_met : (s : FluxSystem) → 1 ≤ patches s → patches s ≤ 1024 → length s.shares ≡ patches s * patches s → has_size s ≡ true
+size_met s some few square = and_from _ _ (and_from _ _ (le-leb _ _ some) (le-leb _ _ few)) (eq-eqb _ _ square)
+
+pub threshold_met : (s : FluxSystem) → 1 ≤ s.threshold → s.threshold ≤ 10000000000000000 → has_threshold s ≡ true
+threshold_met s positive limited = and_from _ _ (le-leb _ _ positive) (le-leb _ _ limited)
+
+pub too_few : (s : FluxSystem) → patches s < 1 → has_size s ≡ false
+too_few s h = and_left _ _ (and_left _ _ (lt-leb _ _ h))
+
+pub too_many : (s : FluxSystem) → 1024 < patches s → has_size s ≡ false
+too_many s h = and_left _ _ (and_right _ _ (lt-leb _ _ h))
+
+pub no_square : (s : FluxSystem) → (length s.shares ≡ patches s * patches s → ⊥) → has_size s ≡ false
+no_square s h = and_right _ _ (ne_eqb _ _ h)
+
+pub too_low : (s : FluxSystem) → s.threshold < 1 → has_threshold s ≡ false
+too_low s h = and_left _ _ (lt-leb _ _ h)
+
+pub too_high : (s : FluxSystem) → 10000000000000000 < s.threshold → has_threshold s ≡ false
+too_high s h = and_right _ _ (lt-leb _ _ h)
+
+-- one reflectance, and one row of shares
+pub reflectance_met : (s : FluxSystem) (i r : ℕ) → r ≡ slice_index s.reflectance i → r ≤ 950 → reflectance_duty s i ≡ None
+reflectance_met s i r is h = unless_holds _ _ (le-leb _ _ (omega arith))
+
+pub reflectance_refused : (s : FluxSystem) (i r : ℕ) → r ≡ slice_index s.reflectance i → 950 < r → reflectance_duty s i ≡ Some (Reflectance i)
+reflectance_refused s i r is h = unless_fails _ _ (lt-leb _ _ (omega arith))
+
+pub row_met : (s : FluxSystem) (i total : ℕ) → total ≡ row_total s i → total < 1000000000 → row_duty s i ≡ None
+row_met s i total is h = unless_holds _ _ (lt-ltb _ _ (omega arith))
+
+pub row_refused : (s : FluxSystem) (i total : ℕ) → total ≡ row_total s i → 1000000000 ≤ total → row_duty s i ≡ Some (RowTotal i)
+row_refused s i total is h = unless_fails _ _ (le-ltb _ _ (omega arith))
+
+pub refused_by_size : (s : FluxSystem) → has_size s ≡ false → first (system_duties s) ≡ Some (Size (patches s))
+unfolding system_duties
+refused_by_size s off = this_fails _ _ _ (unless_fails _ _ off)
+
+pub refused_by_threshold : (s : FluxSystem) → has_size s ≡ true → has_threshold s ≡ false → first (system_duties s) ≡ Some Threshold
+unfolding system_duties
+refused_by_threshold s size off = this_met _ _ (unless_holds _ _ size) ∙ this_fails _ _ _ (unless_fails _ _ off)
+
+pub refused_by_reflectance : (s : FluxSystem) (f : SystemFault) → has_size s ≡ true → has_threshold s ≡ true → each (patches s) (reflectance_duty s) ≡ Some f → first (system_duties s) ≡ Some f
+unfolding system_duties
+refused_by_reflectance s f size threshold fails = this_met _ _ (unless_holds _ _ size) ∙ (this_met _ _ (unless_holds _ _ threshold) ∙ this_fails _ _ _ fails)
+
+pub rows_decide : (s : FluxSystem) → has_size s ≡ true → has_threshold s ≡ true → each (patches s) (reflectance_duty s) ≡ None → first (system_duties s) ≡ each (patches s) (row_duty s)
+unfolding system_duties
+rows_decide s size threshold met = this_met _ _ (unless_holds _ _ size) ∙ (this_met _ _ (unless_holds _ _ threshold) ∙ (this_met _ _ met ∙ first_of_one _))
+
+pub reflectances_met : (s : FluxSystem) → each (patches s) (reflectance_duty s) ≡ None → (i : ℕ) → i < patches s → slice_index s.reflectance i ≤ 950
+reflectances_met s met i h = leb-true _ _ (unless_met _ _ (each_met (reflectance_duty s) (patches s) i met h))
+
+pub valid_where_met : (s : FluxSystem) → first (system_duties s) ≡ None → IsSystem s
+unfolding system_duties
+valid_where_met s met =
+    let a = front_and_later _ _ met in
+    let b = front_and_later _ _ a.1 in
+    let c = front_and_later _ _ b.1 in
+    let d = front_and_later _ _ c.1 in
+    let size = and_parts _ _ (unless_met _ _ a.0) in
+    let range = and_parts _ _ size.0 in
+    let limits = and_parts _ _ (unless_met _ _ b.0) in
+    record {
+      some = leb-true _ _ range.0;
+      few = leb-true _ _ range.1;
+      square = eqb-true _ _ size.1;
+      positive = leb-true _ _ limits.0;
+      limited = leb-true _ _ limits.1;
+      reflectances = reflectances_met s c.0;
+      rows = λ i h. ltb-true _ _ (unless_met _ _ (each_met (row_duty s) (patches s) i d.0 h));
+    }

@@ -1,0 +1,7 @@
+use Rattle.std.proofs.Common.{◌≡◌, [], None}
+use Rattle.duties.specs.Duties.{each}
+use Rattle.flux_system.specs.Validity.{numbers_of, reflectance_duty}
+use Rattle.flux_system.proofs.kept.reflectance_fault.Given as goal
+
+abbrev pub invariant-loop-patch : goal.invariant-loop-patch
+invariant-loop-patch l = each l.patch (reflectance_duty (numbers_of l.reflectance [])) ≡ None

@@ -1,0 +1,9 @@
+use Rattle.std.proofs.Common.{ap, sym, ◌∙◌, drop}
+use Rattle.std.specs.Prelude.{position}
+use Rattle.std.proofs.lemmas.List.{take_rest}
+use Rattle.lux_lines.specs.Places.{is_newline}
+use Rattle.lux_lines.proofs.Steps.{position_none_len}
+use Rattle.lux_lines.proofs.lines.front.Goals as goal
+
+pub returns-in-None-clause-len : goal.returns-in-None-clause-len
+returns-in-None-clause-len c = rw (take_rest c.args.text.now c.args.at) (position_none_len is_newline (drop c.args.at c.args.text.now) (ap (position is_newline) (sym (take_rest c.args.text.now c.args.at)) ∙ (sym c.first_newline.ensures ∙ c.in-None.is)))

@@ -1,0 +1,6 @@
+pub mod Pieces
+pub mod Taking
+pub mod Caused
+pub mod Plain
+pub mod Rows
+pub mod Limited

@@ -1,0 +1,9 @@
+pub mod Answers
+pub mod CommandRows
+pub mod Notes
+pub mod Plans
+pub mod Ready
+pub mod Runs
+pub mod Solving
+pub mod SolveRows
+pub mod Words

@@ -1,0 +1,66 @@
+-- A plan: what a command reads, in order, and what it then has. A command's plan is its order of refusals, read aloud.
+use Rattle.std.specs.Prelude.{◌≡◌, ◌⊎◌, ◌≤◌, ℕ, List, Vec, Result, Ok, Err, Some}
+use Rattle.std.specs.declared.alloc.Global.{Global}
+use Rattle.lux_io.specs.Shelves.{ShelfState, Rose, IsFile, IsOverlong}
+use Rattle.lux_io.specs.declared.blames.Count.TheVariants.{Faults, Overlong}
+use Rattle.lux_top.specs.declared.answers.Answer.{Answer}
+use Rattle.lux_top.specs.declared.answers.Answer.TheVariants.{Read, TooLong, Memory}
+
+-- give a value; refuse with an answer; read the file of a name, of so many bytes at most, and go on with its bytes;
+-- or, where the order of threads leaves a choice, go on with any value of which a fact holds
+pub data Plan (A : Type 0) : Type 1 where
+  Give : A → Plan A
+  Refuse : Answer → Plan A
+  ReadFile : List ℕ → ℕ → (List ℕ → Plan A) → Plan A
+  Choose : {B : Type 0} → (B → Type 0) → (B → Plan A) → Plan A
+
+-- a plan, and then the plan for its value
+abbrev pub and_then : {A B : Type 0} → Plan A → (A → Plan B) → Plan B
+and_then (Give value) next = next value
+and_then (Refuse answer) next = Refuse answer
+and_then (ReadFile name limit more) next = ReadFile name limit (λ bytes. and_then (more bytes) next)
+and_then (Choose P more) next = Choose P (λ choice. and_then (more choice) next)
+
+-- the bytes of a file
+abbrev pub file : List ℕ → ℕ → Plan (List ℕ)
+file name limit = ReadFile name limit (λ bytes. Give bytes)
+
+-- the value that was found, or the answer for its fault
+abbrev pub accept : {V F : Type 0} → Result V F → (F → Answer) → Plan V
+accept (Ok value) refusal = Give value
+accept (Err fault) refusal = Refuse (refusal fault)
+
+-- the answer for a file that was not read: this very read raised the count and has the blame
+abbrev pub Unread : List ℕ → ℕ → ShelfState → ShelfState → Answer → Type 0
+Unread name limit before after (Read file) = (file ≡ name) × Rose before.faults after.faults × (after.blame ≡ Some (record { count = Faults; name = name; limit = limit }))
+Unread name limit before after (TooLong file) = (file ≡ name) × Rose before.overlong after.overlong × (after.blame ≡ Some (record { count = Overlong; name = name; limit = limit })) × IsOverlong before name limit
+Unread name limit before after _ = ⊥
+
+abbrev pub OnRefusal : {A : Type 0} → (Answer → Type 0) → Result A Answer → Type 0
+OnRefusal P (Ok value) = ⊥
+OnRefusal P (Err answer) = P answer
+
+-- what a plan comes to, with the shelf before and after
+abbrev pub Decides : {A : Type 0} → Plan A → ShelfState → ShelfState → Result A Answer → Type 0
+Decides (Give value) before after result = result ≡ Ok value
+Decides (Refuse answer) before after result = result ≡ Err answer
+Decides (ReadFile name limit next) before after result =
+    OnRefusal (Unread name limit before after) result
+    ⊎ ((bytes : List ℕ) × IsFile before name limit bytes × Decides (next bytes) before after result)
+Decides (Choose {B} P next) before after result = (choice : B) × P choice × Decides (next choice) before after result
+
+-- the same, or want of memory at any moment; the files stay, and no count falls
+pub record Takes {A : Type 0} (plan : Plan A) (before after : ShelfState) (result : Result A Answer) : Type 0 where
+  pub decides : (result ≡ Err Memory) ⊎ Decides plan before after result
+  pub files : after.files ≡ before.files
+  pub faults : before.faults ≤ after.faults
+  pub overlong : before.overlong ≤ after.overlong
+
+-- a part of a plan that reads nothing
+abbrev pub Gives : {A : Type 0} → Plan A → Result A Answer → Type 0
+Gives plan result = (shelf : ShelfState) → Takes plan shelf shelf result
+
+-- the bytes of a vector
+abbrev pub items_of : Result (Vec ℕ Global) Answer → Result (List ℕ) Answer
+items_of (Ok bytes) = Ok bytes.items
+items_of (Err answer) = Err answer

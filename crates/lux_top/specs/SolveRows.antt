@@ -1,0 +1,109 @@
+-- When each answer of `solve` comes, in plain words: one row for each answer.
+use Rattle.std.specs.Prelude.{◌≡◌, ℕ, List, Result, Ok, Err, Option, Some, None}
+use Rattle.duties.specs.Duties.{first}
+use Rattle.flux_system.specs.System.{FluxSystem}
+use Rattle.flux_system.specs.Limits.{limit_duties}
+use Rattle.flux_ledger.specs.declared.ledger.Ledger.{Ledger}
+use Rattle.flux_ledger.specs.Balance.{IsBalanced, IsFinished, IsPaid}
+use Rattle.flux_ledger.specs.LedgerText as ledger_text
+use Rattle.lux_io.specs.Shelves.{ShelfState, Rose, IsFile, IsOverlong}
+use Rattle.lux_io.specs.Sinks.{Wrote, WroteSome}
+use Rattle.lux_io.specs.declared.blames.Count.TheVariants.{Faults, Overlong}
+use Rattle.shot_core.specs.Settling.{settled, untouched}
+use Rattle.system_file.specs.SystemText.{system_of}
+use Rattle.lux_top.specs.declared.solving.TheConstants.{SYSTEM_LIMIT}
+use Rattle.lux_top.specs.declared.answers.Answer.{Answer}
+use Rattle.lux_top.specs.declared.answers.Answer.TheVariants.{Done, Usage, Read, TooLong, System, Limits, Write, Memory}
+use Rattle.lux_top.specs.declared.answers.Worst.{Worst}
+use Rattle.lux_top.specs.declared.answers.Worst.TheVariants.{AllPass}
+use Rattle.lux_top.specs.Notes.{Noted}
+use Rattle.lux_top.specs.Ready.{Writing}
+use Rattle.lux_top.specs.Runs.{World, Refused}
+
+-- the file has a text that says this flux system and this direct flux
+pub record IsFileProblem (shelf : ShelfState) (name : List ℕ) (problem : FluxSystem × List ℕ) : Type 0 where
+  pub text : List ℕ
+  pub is_file : IsFile shelf name SYSTEM_LIMIT text
+  pub accepted : system_of text ≡ Ok problem
+
+-- the problem is within the limits
+abbrev pub IsWithinLimits : FluxSystem × List ℕ → Type 0
+IsWithinLimits problem = first (limit_duties problem.0 problem.1) ≡ None
+
+-- the settled ledger of a flux system and a direct flux: finished, balanced and paid, of one account
+pub record IsSolution (system : FluxSystem) (flux : List ℕ) (ledger : Ledger) : Type 0 where
+  pub settles : ledger ≡ settled system (untouched system flux)
+  pub finished : IsFinished system ledger
+  pub balanced : IsBalanced system ledger
+  pub paid : IsPaid system ledger
+  pub same_flux : ledger.direct ≡ flux
+  pub one_account : ledger.parts ≡ 1
+
+-- the ledger is the solution of what the file says, which is within the limits
+pub record IsSolvedBy (shelf : ShelfState) (name : List ℕ) (ledger : Ledger) : Type 0 where
+  pub problem : FluxSystem × List ℕ
+  pub is_read : IsFileProblem shelf name problem
+  pub within_limits : IsWithinLimits problem
+  pub solution : IsSolution problem.0 problem.1 ledger
+
+-- the file was solved, all of the ledger's text was written, and no note was put
+pub record IsSolved (name : List ℕ) (before after : World) (answered : Option Ledger) (worst : Worst) : Type 0 where
+  pub ledger : Ledger
+  pub is_answered : answered ≡ Some ledger
+  pub solved : IsSolvedBy before.shelf name ledger
+  pub all_pass : worst ≡ AllPass
+  pub wrote : Wrote before.out after.out (ledger_text.text_of ledger)
+  pub no_note : after.notes ≡ before.notes
+
+-- the file was solved, and the output had a fault and took a part of the ledger's text from the front
+pub record IsCutOff (name : List ℕ) (before after : World) : Type 0 where
+  pub ledger : Ledger
+  pub solved : IsSolvedBy before.shelf name ledger
+  pub wrote : WroteSome before.out after.out (ledger_text.text_of ledger)
+  pub noted : Noted Write before.notes after.notes
+
+-- why a file is refused: this read failed; or found too many bytes; the file has no system text, with its first fault;
+-- or what it says is past a limit, with the first. Want of memory needs no reason, and no other answer refuses.
+abbrev pub SolveRefusal : List ℕ → ShelfState → ShelfState → Answer → Type 0
+SolveRefusal name before after (Read file) = (file ≡ name) × Rose before.faults after.faults × (after.blame ≡ Some (record { count = Faults; name = name; limit = SYSTEM_LIMIT }))
+SolveRefusal name before after (TooLong file) = (file ≡ name) × Rose before.overlong after.overlong × (after.blame ≡ Some (record { count = Overlong; name = name; limit = SYSTEM_LIMIT })) × IsOverlong before name SYSTEM_LIMIT
+SolveRefusal name before after (System fault) = (text : List ℕ) × IsFile before name SYSTEM_LIMIT text × (system_of text ≡ Err fault)
+SolveRefusal name before after (Limits fault) = (problem : FluxSystem × List ℕ) × IsFileProblem before name problem × (first (limit_duties problem.0 problem.1) ≡ Some fault)
+SolveRefusal name before after Memory = Unit {0}
+SolveRefusal name before after Usage = ⊥
+SolveRefusal name before after Write = ⊥
+SolveRefusal name before after (Done ledger worst) = ⊥
+
+-- the row of each answer of `solve`
+abbrev pub SolveRow : List ℕ → World → World → Answer → Type 0
+SolveRow name before after (Done ledger worst) = IsSolved name before after ledger worst
+SolveRow name before after Write = IsCutOff name before after
+SolveRow name before after answer = Refused answer before after × SolveRefusal name before.shelf after.shelf answer
+
+-- why a text is refused
+abbrev pub TextRefusal : List ℕ → Answer → Type 0
+TextRefusal text (System fault) = system_of text ≡ Err fault
+TextRefusal text Memory = Unit {0}
+TextRefusal text _ = ⊥
+
+-- why a problem is refused
+abbrev pub LimitRefusal : FluxSystem × List ℕ → Answer → Type 0
+LimitRefusal problem (Limits fault) = first (limit_duties problem.0 problem.1) ≡ Some fault
+LimitRefusal problem _ = ⊥
+
+-- this solution and its text are ready to be written
+pub record Carries (ledger : Ledger) (writing : Writing) : Type 0 where
+  pub is_done : writing.answer ≡ Done (Some ledger) AllPass
+  pub is_text : writing.bytes ≡ ledger_text.text_of ledger
+
+-- what is ready to be written is a solution of the problem, and its text
+pub record IsSolutionOf (problem : FluxSystem × List ℕ) (writing : Writing) : Type 0 where
+  pub ledger : Ledger
+  pub solution : IsSolution problem.0 problem.1 ledger
+  pub carries : Carries ledger writing
+
+-- what is ready to be written is the solution of the file, and its text
+pub record IsReady (shelf : ShelfState) (name : List ℕ) (writing : Writing) : Type 0 where
+  pub ledger : Ledger
+  pub solved : IsSolvedBy shelf name ledger
+  pub carries : Carries ledger writing

@@ -1,0 +1,44 @@
+// What a call may answer.
+use flux_ledger::Ledger;
+use flux_system::LimitFault;
+use lux_io::Name;
+use system_file::SysFault;
+
+/// What the verdicts of a run come to. Without verdicts it is `AllPass`.
+#[derive(Clone, Copy, Debug, PartialEq, Eq)]
+pub enum Worst {
+    AllPass,
+    SomeFail,
+    SomeUndecided,
+}
+
+/// How a command ended. Each answer has its status (0 to 10) and, but for `Done`, one line of note.
+#[derive(Debug, Drop)]
+pub enum Answer {
+    /// All was written. The ledger is the one whose text was written.
+    Done {
+        ledger: Option<Ledger>,
+        worst: Worst,
+    },
+    /// The words are no command.
+    Usage,
+    /// This file could not be read.
+    Read { name: Name },
+    /// This file has more bytes than its limit.
+    TooLong { name: Name },
+    /// The file is no system text, for this reason.
+    System(SysFault),
+    /// A number of the flux system or its direct flux passes a limit.
+    Limits(LimitFault),
+    /// The output took a part of the bytes at most.
+    Write,
+    /// No memory was found.
+    Memory,
+}
+
+/// An answer and its exit status.
+#[derive(Debug, Drop)]
+pub struct Outcome {
+    pub status: u8,
+    pub answer: Answer,
+}

@@ -1,0 +1,66 @@
+// The top call.
+ghost use Rattle.std.specs.Prelude.{map, string_bytes, Some};
+ghost use Rattle.lux_top.specs.Runs.{world, Follows};
+ghost use Rattle.lux_top.specs.CommandRows.{CommandRow};
+ghost use Rattle.lux_top.specs.Words.{command_of, plan_of};
+
+use crate::commands::{Command, read_words};
+use crate::endings::conclude;
+use crate::solving::solve;
+use crate::{Answer, Outcome};
+use lux_io::{Gate, Shelf, Sink};
+use std::alloc::Global;
+use std::sync::Wait;
+use std::thread::Threads;
+
+/// Does what the words say: reads the files of the command from the shelf, writes its text to `out`, and puts one line
+/// to `notes` for each answer but `Done`. Words that are no command answer `Usage`.
+///
+/// The bytes are made whole and then put in pieces of 4,096, so that an answer other than `Done` and `Write` writes
+/// nothing. `rt` and `gate` are for commands that start shooters.
+pub fn lux<R: Threads + Wait, S: Shelf, K: Sink, N: Sink, G: Gate>(
+    _rt: &R,
+    alloc: Global,
+    words: &[String],
+    shelf: &mut S,
+    out: &mut K,
+    notes: &mut N,
+    _gate: &G,
+) -> Outcome
+    ensures follows { Follows (plan_of (command_of (map string_bytes words.now)))
+        (world (S.state shelf.old) (K.state out.old) (N.state notes.old))
+        (world (S.state shelf.new) (K.state out.new) (N.state notes.new))
+        result }
+    ensures row { CommandRow (command_of (map string_bytes words.now))
+        (world (S.state shelf.old) (K.state out.old) (N.state notes.old))
+        (world (S.state shelf.new) (K.state out.new) (N.state notes.new))
+        result.answer }
+{
+    match read_words(alloc, words) {
+        Err(_) => conclude(alloc, Err(Answer::Memory), out, notes),
+        Ok(None) => conclude(alloc, Err(Answer::Usage), out, notes),
+        Ok(Some(command)) => obey(alloc, command, shelf, out, notes),
+    }
+}
+
+// Does a command.
+fn obey<S: Shelf, K: Sink, N: Sink>(
+    alloc: Global,
+    command: Command,
+    shelf: &mut S,
+    out: &mut K,
+    notes: &mut N,
+) -> Outcome
+    ensures follows { Follows (plan_of (Some command))
+        (world (S.state shelf.old) (K.state out.old) (N.state notes.old))
+        (world (S.state shelf.new) (K.state out.new) (N.state notes.new))
+        result }
+    ensures row { CommandRow (Some command)
+        (world (S.state shelf.old) (K.state out.old) (N.state notes.old))
+        (world (S.state shelf.new) (K.state out.new) (N.state notes.new))
+        result.answer }
+{
+    match command {
+        Command::Solve(name) => solve(alloc, &name, shelf, out, notes),
+    }
+}

@@ -1,0 +1,85 @@
+#!/usr/bin/env bash
+# Runs the built program on the examples, and compares what it writes, what it notes and how it ends.
+#
+# A case is a folder of cases/ with the files `words` (one word a line) and whatever the words name, and with what is
+# expected: `stdout` and `stderr` (absent: nothing) and `status` (absent: 0). It is run in its own folder.
+here=$(cd "$(dirname "$0")" && pwd)
+program=$here/../crates/lux/out/lux
+[ -x "$program" ] || "$here/../lux" >/dev/null 2>&1
+if [ ! -x "$program" ]; then
+  echo "examples: the program is not built"
+  exit 1
+fi
+room=$(mktemp -d)
+trap 'rm -rf "$room"' EXIT
+passed=0 failed=0
+
+# Compares a run that left stdout, stderr and status in $room with three expected files.
+compare() {
+  local name=$1 stdout=$2 stderr=$3 status=$4
+  if cmp -s "$room/stdout" "$stdout" && cmp -s "$room/stderr" "$stderr" && [ "$(cat "$room/status")" = "$status" ]; then
+    passed=$((passed + 1))
+  else
+    failed=$((failed + 1))
+    echo "examples: $name differs: status $(cat "$room/status") (expected $status), note: $(head -c 200 "$room/stderr")"
+  fi
+}
+
+# run NAME STDOUT NOTE STATUS WORD..: runs the words in the current folder. STDOUT is a file; NOTE is a line, or nothing.
+run() {
+  local name=$1 stdout=$2 note=$3 status=$4
+  shift 4
+  "$program" "$@" >"$room/stdout" 2>"$room/stderr"
+  echo $? >"$room/status"
+  if [ -n "$note" ]; then echo "$note" >"$room/note"; else : >"$room/note"; fi
+  compare "$name" "$stdout" "$room/note" "$status"
+}
+
+: >"$room/nothing"
+cd "$here" || exit 1
+run two-patches two-patches.ledger.txt "" 0 solve two-patches.txt
+run store-room store-room.ledger.txt "" 0 solve store-room.system.txt
+run office office.ledger.txt "" 0 solve office.system.txt
+
+for case in cases/*/; do
+  name=$(basename "$case")
+  cd "$here/$case" || exit 1
+  mapfile -t words <words
+  "$program" "${words[@]}" >"$room/stdout" 2>"$room/stderr"
+  echo $? >"$room/status"
+  stdout=stdout stderr=stderr status=0
+  [ -f stdout ] || stdout=$room/nothing
+  [ -f stderr ] || stderr=$room/nothing
+  [ -f status ] && status=$(cat status)
+  compare "$name" "$stdout" "$stderr" "$status"
+done
+
+# What a file can't hold: a folder, a text past its limit, an output that takes nothing or is closed.
+cd "$room" || exit 1
+cp "$here/two-patches.txt" two.txt
+usage="lux: usage: lux solve FILE | photo FILE | run PROJECT [--shooters N] [--csv] | audit SYSTEM LEDGER | gen NUMBER"
+run no-words nothing "$usage" 3
+run unknown-word nothing "$usage" 3 settle two.txt
+run two-files nothing "$usage" 3 solve two.txt two.txt
+run not-text nothing "$usage" 3 solve $'\xff.txt'
+run missing-file nothing "lux: cannot read none.txt" 6 solve none.txt
+mkdir folder
+run folder nothing "lux: cannot read folder" 6 solve folder
+truncate -s 16777216 most.txt
+run most-bytes nothing "lux: system: header" 4 solve most.txt
+truncate -s 16777217 more.txt
+run too-long nothing "lux: file too long: more.txt" 6 solve more.txt
+
+"$program" solve two.txt >&- 2>"$room/stderr"
+echo $? >"$room/status"
+echo "lux: cannot write" >"$room/note"
+: >"$room/stdout"
+compare closed-output nothing "$room/note" 7
+if [ -c /dev/full ]; then
+  "$program" solve two.txt >/dev/full 2>"$room/stderr"
+  echo $? >"$room/status"
+  compare full-output nothing "$room/note" 7
+fi
+
+echo "examples: $passed passed, $failed failed"
+[ "$failed" = 0 ]
