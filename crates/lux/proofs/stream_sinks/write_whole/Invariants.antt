@@ -1,0 +1,10 @@
+use Rattle.std.proofs.Common.{◌-◌, ◌≤◌, length, take}
+use Rattle.std.specs.Io.KnownBytes.{Appends}
+use Rattle.lux.proofs.stream_sinks.write_whole.Given as goal
+
+-- so many bytes of the piece's front were written
+abbrev pub invariant-loop-written : goal.invariant-loop-written
+invariant-loop-written g l = (l.written ≤ length l.piece) × Appends (g.W.Write.contents l.initial.stream) (g.W.Write.contents l.stream) (take l.written l.piece)
+
+abbrev pub decreases-loop-written : goal.decreases-loop-written
+decreases-loop-written g l = length l.piece - l.written
