@@ -1,16 +1,60 @@
 // The ledger text.
-ghost use Rattle.std.specs.Prelude.{◌≡◌, IfOk, length};
+ghost use Rattle.std.specs.Prelude.{◌≡◌, ◌++◌, ◌<◌, OnOk, IfOk, length};
 ghost use Rattle.flux_ledger.specs.Balance.{HasPatches};
-ghost use Rattle.flux_ledger.specs.LedgerText.{text_of};
+ghost use Rattle.flux_ledger.specs.LedgerText.{head_lines, patch_line, text_of};
 
 use crate::Ledger;
+use itoa::{Buffer, Integer};
 use std::alloc::{AllocError, Global};
+
+// No line of a ledger with fewer than 10,000,000 patches is longer.
+const MOST_LINE_BYTES: usize = 128;
+
+// Appends a text, and then a number in its digits.
+fn push_number<N: Integer>(text: &mut Vec<u8>, before: &[u8], number: N) -> Result<(), AllocError>
+    ensures { OnOk result (text.new.items ≡ text.old.items ++ before.now ++ N.text number) }
+{
+    text.extend_from_slice(before)?;
+    text.extend_from_slice(Buffer::new().format(number).as_bytes())
+}
+
+// Appends the lines before those of the patches.
+fn push_head(text: &mut Vec<u8>, ledger: &Ledger) -> Result<(), AllocError>
+    ensures { OnOk result (text.new.items ≡ text.old.items ++ head_lines ledger.now) }
+{
+    let direct = ledger.direct.as_slice();
+    push_number(text, b"lux-ledger 1\npatches ", direct.len())?;
+    push_number(text, b"\nwins ", ledger.wins)?;
+    push_number(text, b"\nparts ", ledger.parts)?;
+    text.extend_from_slice(b"\n")?;
+    Ok(())
+}
+
+// Appends the line of one patch.
+fn push_patch(text: &mut Vec<u8>, ledger: &Ledger, patch: usize) -> Result<(), AllocError>
+    requires lengths { HasPatches (length ledger.now.direct) ledger.now }
+    requires patch { patch < length ledger.now.direct }
+    ensures { OnOk result (text.new.items ≡ text.old.items ++ patch_line ledger.now patch) }
+{
+    push_number(text, b"patch ", patch)?;
+    push_number(text, b" direct ", ledger.direct.as_slice()[patch])?;
+    push_number(text, b" taken ", ledger.taken.as_slice()[patch])?;
+    push_number(text, b" residual ", ledger.residual.as_slice()[patch])?;
+    push_number(text, b" err ", ledger.err.as_slice()[patch])?;
+    text.extend_from_slice(b"\n")
+}
 
 /// The text of a ledger, whose lists have one length.
 pub fn ledger_text(alloc: Global, ledger: &Ledger) -> Result<Vec<u8>, AllocError>
     requires { HasPatches (length ledger.now.direct) ledger.now }
     ensures { IfOk result (λ text. text.items ≡ text_of ledger.now) }
 {
-    let _ledger = ledger;
-    Ok(Vec::new(alloc))
+    let patches = ledger.direct.as_slice().len();
+    let room = patches.saturating_add(1).saturating_mul(MOST_LINE_BYTES);
+    let mut text = Vec::with_capacity(alloc, room)?;
+    push_head(&mut text, ledger)?;
+    for patch in 0..patches {
+        push_patch(&mut text, ledger, patch)?;
+    }
+    Ok(text)
 }
