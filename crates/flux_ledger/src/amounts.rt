@@ -1,5 +1,5 @@
 // A list of numbers that contracts see as such.
-ghost use Rattle.std.specs.Prelude.{◌≡◌, length};
+ghost use Rattle.std.specs.Prelude.{◌≡◌, ◌<◌, length, slice_index, slice_set};
 
 use std::marker::Model;
 
@@ -36,5 +36,23 @@ impl Amounts {
         ensures { result.now ≡ self.now }
     {
         self.values.as_slice()
+    }
+
+    /// The number of patch `i`.
+    #[inline]
+    pub fn get(&self, i: usize) -> u64
+        requires { i < length self.now }
+        ensures { result ≡ slice_index self.now i }
+    {
+        self.values[i]
+    }
+
+    /// Writes the number of patch `i`.
+    #[inline]
+    pub fn set(&mut self, i: usize, value: u64)
+        requires { i < length self.old }
+        ensures { self.new ≡ slice_set self.old i value }
+    {
+        self.values[i] = value;
     }
 }
