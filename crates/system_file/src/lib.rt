@@ -5,5 +5,8 @@
 #![tactic(auto)]
 
 mod faults;
+mod reader;
+mod rows;
 
 pub use faults::SysFault;
+pub use reader::read_system;
