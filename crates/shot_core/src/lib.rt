@@ -4,3 +4,7 @@
 //! threshold; [`serial`] does so from nothing taken. What a shot is stands in `specs/Shots.antt`, and which ledger all
 //! of them lead to in `specs/Settling.antt`.
 #![tactic(auto)]
+
+mod parts;
+mod places;
+mod shots;

@@ -1,0 +1,5 @@
+pub mod Listed
+pub mod Brightest
+pub mod Booking
+pub mod Keeping
+pub mod Ending
