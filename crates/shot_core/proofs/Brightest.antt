@@ -1,5 +1,5 @@
 -- The first place of the greatest value.
-use Rattle.std.proofs.Common.{◌≡◌, ℕ, ◌+◌, ◌<◌, ◌≤◌, max, List, [], ◌∷◌, Bool, true, false, eqb, ltb, cond, Option, Some, None, zero, suc, length, get_or, sym, ap, subst, ◌∙◌, arith}
+use Rattle.std.proofs.Common.{◌≡◌, ℕ, ◌<◌, ◌≤◌, max, List, [], ◌∷◌, Bool, true, eqb, ltb, Option, Some, zero, suc, length, get_or, sym, ap, ◌∙◌, arith}
 use Rattle.std.specs.List.{fold, position, position_or_len}
 use Rattle.std.specs.Prelude.{unwrap_or}
 use Rattle.std.proofs.lemmas.Bool.{eq-eqb, ne_eqb, lt-ltb, cond-true}

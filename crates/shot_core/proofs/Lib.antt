@@ -3,3 +3,4 @@ pub mod Brightest
 pub mod Booking
 pub mod Keeping
 pub mod Ending
+pub mod Untouched

@@ -1,5 +1,5 @@
 -- Lists that are made place by place, and numbers that are cut by the scale.
-use Rattle.std.proofs.Common.{◌≡◌, ◌≢◌, ℕ, ◌+◌, ◌*◌, ◌/◌, ◌%◌, ◌<◌, ◌≤◌, below_more, get_or-set_same, get_or-set_other, List, [], ◌∷◌, zero, suc, map, length, get_or, set, refl, sym, ap, ◌∙◌, arith}
+use Rattle.std.proofs.Common.{◌≡◌, ◌≢◌, ℕ, ◌+◌, ◌*◌, ◌/◌, ◌%◌, ◌<◌, ◌≤◌, below_more, get_or-set_same, get_or-set_other, List, [], ◌∷◌, zero, suc, map, length, get_or, set, refl, ◌∙◌, arith}
 use Rattle.std.specs.List.{range_with_len}
 use Rattle.std.proofs.lemmas.List.FromFn.{get_or-map-range_with_len, length-map-range_with_len, fill_by_all}
 

@@ -7,4 +7,7 @@
 
 mod parts;
 mod places;
+mod settling;
 mod shots;
+
+pub use settling::{Settler, serial, settle};

@@ -1,4 +1,4 @@
-use Rattle.std.proofs.Common.{List, ℕ, ◌+◌, ◌*◌, ◌/◌, ◌%◌, ◌<◌, ◌≤◌, length, get_or, get_or-set_same, get_or-set_other, length-set, below_more, sym, ap, ◌∙◌, arith}
+use Rattle.std.proofs.Common.{List, ℕ, ◌*◌, ◌/◌, ◌%◌, ◌<◌, length, get_or, length-set, ap, ◌∙◌, arith}
 use Rattle.std.proofs.lemmas.List.FromFn.{fill_by_all}
 use Rattle.flux_system.specs.System.{patches, scale}
 use Rattle.shot_core.specs.Shots.{parts_after}

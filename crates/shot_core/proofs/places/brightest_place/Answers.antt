@@ -1,4 +1,4 @@
-use Rattle.std.proofs.Common.{◌<◌, ◌≤◌, arith}
+use Rattle.std.proofs.Common.{arith}
 use Rattle.shot_core.proofs.Brightest.{brightest-is}
 use Rattle.shot_core.proofs.places.brightest_place.Goals as goal
 

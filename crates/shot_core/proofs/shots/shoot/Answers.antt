@@ -1,7 +1,5 @@
-use Rattle.std.proofs.Common.{◌≡◌, ℕ, ◌+◌, ◌/◌, ◌<◌, ◌≤◌, List, length, get_or, set, length-set, sym, ap, subst, ◌∙◌, arith}
-use Rattle.flux_system.specs.System.{patches, scale}
-use Rattle.flux_ledger.specs.declared.ledger.Ledger.{Ledger}
-use Rattle.shot_core.specs.Shots.{shot, fractions_after}
+use Rattle.std.proofs.Common.{ℕ, ◌+◌, set, ap, ◌∙◌, arith}
+use Rattle.shot_core.specs.Shots.{fractions_after}
 use Rattle.shot_core.proofs.Booking.{given_is, given_fits}
 use Rattle.shot_core.proofs.Keeping.{taking_fits, residual_fits, taken_fits, wins_fit}
 use Rattle.shot_core.proofs.shots.shoot.Goals as goal

@@ -1,0 +1,114 @@
+// Settling on one thread.
+ghost use Rattle.std.specs.Prelude.{◌≡◌, ◌≤◌, ◌^◌, IfOk, length, sum};
+ghost use Rattle.flux_system.specs.System.{patches};
+ghost use Rattle.flux_ledger.specs.Balance.{IsBalanced, IsFinished, IsPaid};
+ghost use Rattle.shot_core.specs.Settling.{settled, untouched};
+
+use crate::places::brightest_place;
+use crate::shots::shoot;
+use flux_ledger::{Amounts, Ledger};
+use flux_system::System;
+use std::alloc::{AllocError, Global};
+use std::marker::Model;
+
+/// What settling needs beside a ledger. Contracts see it as the number of patches that it was made for.
+#[derive(Debug, Drop)]
+pub struct Settler {
+    amounts: Vec<u64>,
+}
+
+impl Model for Settler {
+    ghost use Rattle.std.specs.Prelude.{ℕ, length};
+
+    ghost Value = { ℕ };
+
+    ghost view = { λ settler. length settler.amounts.items };
+}
+
+impl Settler {
+    /// A settler for systems of `n` patches.
+    pub fn new(alloc: Global, n: usize) -> Result<Settler, AllocError>
+        requires { 1 ≤ n }
+        ensures { IfOk result (λ settler. settler ≡ n) }
+    {
+        Ok(Settler {
+            amounts: Vec::from_elem(alloc, 0, n)?,
+        })
+    }
+}
+
+/// Shoots the first patch of the greatest residual, again and again while that residual reaches the threshold. The
+/// settler is one for as many patches as the system has. Takes no memory.
+pub fn settle(system: &System, settler: &mut Settler, ledger: &mut Ledger)
+    requires balanced { IsBalanced system.now ledger.old }
+    requires paid { IsPaid system.now ledger.old }
+    requires flux { sum ledger.old.direct ≤ 10 ^ 16 }
+    requires settler { settler.old ≡ patches system.now }
+
+    ensures settled { ledger.new ≡ settled system.now ledger.old }
+    ensures finished { IsFinished system.now ledger.new }
+    ensures balanced { IsBalanced system.now ledger.new }
+    ensures paid { IsPaid system.now ledger.new }
+
+    ensures direct { ledger.new.direct ≡ ledger.old.direct }
+    ensures parts { ledger.new.parts ≡ ledger.old.parts }
+    ensures settler { settler.new ≡ settler.old }
+{
+    settle_over(system, settler.amounts.as_mut_slice(), ledger);
+}
+
+// Settles a ledger with a place for the amounts of one shot.
+fn settle_over(system: &System, amounts: &mut [u64], ledger: &mut Ledger)
+    requires balanced { IsBalanced system.now ledger.old }
+    requires paid { IsPaid system.now ledger.old }
+    requires flux { sum ledger.old.direct ≤ 10 ^ 16 }
+    requires amounts { length amounts.old ≡ patches system.now }
+    ensures settled { ledger.new ≡ settled system.now ledger.old }
+    ensures finished { IsFinished system.now ledger.new }
+    ensures balanced { IsBalanced system.now ledger.new }
+    ensures paid { IsPaid system.now ledger.new }
+    ensures direct { ledger.new.direct ≡ ledger.old.direct }
+    ensures parts { ledger.new.parts ≡ ledger.old.parts }
+{
+    let _patches = system.len();
+    let threshold = system.threshold();
+    let mut place = brightest_place(ledger.residual.as_slice());
+    while ledger.residual.get(place) >= threshold {
+        shoot(system, place, amounts, ledger);
+        place = brightest_place(ledger.residual.as_slice());
+    }
+}
+
+/// Settles a direct flux, in nanolumens for each patch, of which nothing was taken yet.
+pub fn serial(alloc: Global, system: &System, direct: &[u64]) -> Result<Ledger, AllocError>
+    requires lengths { length direct.now ≡ patches system.now }
+    requires flux { sum direct.now ≤ 10 ^ 16 }
+
+    ensures settled { IfOk result (λ ledger. ledger ≡ settled system.now (untouched system.now direct.now)) }
+    ensures finished { IfOk result (λ ledger. IsFinished system.now ledger) }
+    ensures balanced { IfOk result (λ ledger. IsBalanced system.now ledger) }
+    ensures paid { IfOk result (λ ledger. IsPaid system.now ledger) }
+
+    ensures direct { IfOk result (λ ledger. ledger.direct ≡ direct.now) }
+    ensures parts { IfOk result (λ ledger. ledger.parts ≡ 1) }
+{
+    let mut settler = Settler::new(alloc, system.len())?;
+    let mut ledger = untouched_ledger(alloc, system, direct)?;
+    settle(system, &mut settler, &mut ledger);
+    Ok(ledger)
+}
+
+// The ledger of a direct flux of which nothing was taken yet.
+fn untouched_ledger(alloc: Global, system: &System, direct: &[u64]) -> Result<Ledger, AllocError>
+    ensures { IfOk result (λ ledger. ledger ≡ untouched system.now direct.now) }
+{
+    let n = system.len();
+    Ok(Ledger {
+        direct: Amounts::from_vec(Vec::from_slice(alloc, direct)?),
+        taken: Amounts::from_vec(Vec::from_elem(alloc, 0, n)?),
+        residual: Amounts::from_vec(Vec::from_slice(alloc, direct)?),
+        err: Amounts::from_vec(Vec::from_elem(alloc, 0, n)?),
+        parts: 1,
+        wins: 0,
+    })
+}
