@@ -23,9 +23,13 @@ pub enum Answer {
     /// The words are no command.
     Usage,
     /// This file could not be read.
-    Read { name: Name },
+    Read {
+        name: Name,
+    },
     /// This file has more bytes than its limit.
-    TooLong { name: Name },
+    TooLong {
+        name: Name,
+    },
     /// The file is no system text, for this reason.
     System(SysFault),
     /// A number of the flux system or its direct flux passes a limit.

@@ -5,10 +5,7 @@ use std::test::Fail;
 
 /// A file of a shelf.
 pub fn file(alloc: Global, name: &str, text: &str) -> Result<(Name, Vec<u8>), Fail> {
-    Ok((
-        Name::new(alloc, name)?,
-        text.as_bytes().to_vec(alloc)?,
-    ))
+    Ok((Name::new(alloc, name)?, text.as_bytes().to_vec(alloc)?))
 }
 
 #[test]

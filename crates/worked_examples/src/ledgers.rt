@@ -13,7 +13,10 @@ fn two_patches_settle_by_four_takes(rt: HostRuntime) -> Result<(), Fail> {
     assert_eq!(rt; ledger.direct.as_slice(), [1_000, 0].as_slice());
     assert_eq!(rt; ledger.taken.as_slice(), [1_062, 265].as_slice());
     assert_eq!(rt; ledger.residual.as_slice(), [4, 0].as_slice());
-    assert_eq!(rt; ledger.err.as_slice(), [250_000_000_000, 500_000_000_000].as_slice());
+    assert_eq!(rt;
+        ledger.err.as_slice(),
+        [250_000_000_000, 500_000_000_000].as_slice()
+    );
     assert_eq!(rt; (ledger.parts, ledger.wins), (1, 4));
     let text = ledger_text(alloc, &ledger)?;
     assert_eq!(rt; text.as_slice(), TWO_PATCHES_LEDGER.as_bytes());
@@ -58,7 +61,9 @@ fn a_settled_ledger_stays(rt: HostRuntime) -> Result<(), Fail> {
 #[test]
 fn a_ledger_text_has_its_greatest_numbers(rt: HostRuntime) -> Result<(), Fail> {
     let alloc = rt.alloc();
-    let one = |value: u64| -> Result<Amounts, Fail> { Ok(Amounts::from_vec([value].to_vec(alloc)?)) };
+    let one = |value: u64| -> Result<Amounts, Fail> {
+        Ok(Amounts::from_vec([value].to_vec(alloc)?))
+    };
     let ledger = Ledger {
         direct: one(u64::MAX)?,
         taken: one(0)?,
@@ -68,6 +73,9 @@ fn a_ledger_text_has_its_greatest_numbers(rt: HostRuntime) -> Result<(), Fail> {
         wins: u64::MAX,
     };
     let text = ledger_text(alloc, &ledger)?;
-    assert_eq!(rt; text.as_slice(), b"lux-ledger 1\npatches 1\nwins 18446744073709551615\nparts 4294967295\npatch 0 direct 18446744073709551615 taken 0 residual 10 err 1\n".as_slice());
+    assert_eq!(rt;
+        text.as_slice(),
+        b"lux-ledger 1\npatches 1\nwins 18446744073709551615\nparts 4294967295\npatch 0 direct 18446744073709551615 taken 0 residual 10 err 1\n".as_slice()
+    );
     Ok(())
 }

@@ -7,7 +7,10 @@ fn lines_end_by_lf_and_lose_a_cr(rt: HostRuntime) -> Result<(), Fail> {
     let rows: [(&[u8], &[(u32, usize, &[u8])]); 5] = [
         (b"", &[]),
         (b"a", &[(1, 0, b"a")]),
-        (b"a\r\nb\n\nc\r", &[(1, 0, b"a"), (2, 3, b"b"), (3, 5, b""), (4, 6, b"c")]),
+        (
+            b"a\r\nb\n\nc\r",
+            &[(1, 0, b"a"), (2, 3, b"b"), (3, 5, b""), (4, 6, b"c")],
+        ),
         (b"a\n\r", &[(1, 0, b"a"), (2, 2, b"")]),
         (b"a\rb\n", &[(1, 0, b"a\rb")]),
     ];

@@ -6,7 +6,8 @@ use lux_top::{Answer, Worst, lux, solve};
 use std::alloc::Global;
 use std::test::Fail;
 
-const USAGE: &str = "lux: usage: lux solve FILE | photo FILE | run PROJECT [--shooters N] [--csv] | audit SYSTEM LEDGER | gen NUMBER\n";
+const USAGE: &str =
+    "lux: usage: lux solve FILE | photo FILE | run PROJECT [--shooters N] [--csv] | audit SYSTEM LEDGER | gen NUMBER\n";
 
 fn words(alloc: Global, all: &[&str]) -> Result<Vec<String>, Fail> {
     let mut words = Vec::new(alloc);
@@ -52,7 +53,9 @@ fn each_text_has_its_ledger_or_its_note(rt: HostRuntime) -> Result<(), Fail> {
         let mut shelf = shelf(alloc, text, &[])?;
         let mut out = MemSink::new(alloc, 1_000, &[])?;
         let mut notes = MemSink::new(alloc, 1_000, &[])?;
-        let outcome = lux(&rt, alloc, &words, &mut shelf, &mut out, &mut notes, &FreeGate);
+        let outcome = lux(
+            &rt, alloc, &words, &mut shelf, &mut out, &mut notes, &FreeGate,
+        );
         assert_eq!(rt; outcome.status, status);
         assert_eq!(rt; out.written(), written.as_bytes());
         assert_eq!(rt; notes.written(), note.as_bytes());
@@ -79,7 +82,9 @@ fn words_are_a_command_or_get_the_usage(rt: HostRuntime) -> Result<(), Fail> {
         let mut shelf = shelf(alloc, TWO_PATCHES, &[])?;
         let mut out = MemSink::new(alloc, 1_000, &[])?;
         let mut notes = MemSink::new(alloc, 1_000, &[])?;
-        let outcome = lux(&rt, alloc, &words, &mut shelf, &mut out, &mut notes, &FreeGate);
+        let outcome = lux(
+            &rt, alloc, &words, &mut shelf, &mut out, &mut notes, &FreeGate,
+        );
         assert_eq!(rt; outcome.status, status);
         assert_eq!(rt; notes.written(), note.as_bytes());
     }
@@ -94,7 +99,10 @@ fn done_names_the_ledger(rt: HostRuntime) -> Result<(), Fail> {
     let mut notes = MemSink::new(alloc, 0, &[])?;
     let name = Name::new(alloc, "s")?;
     match solve(alloc, &name, &mut shelf, &mut out, &mut notes).answer {
-        Answer::Done { ledger: Some(ledger), worst } => {
+        Answer::Done {
+            ledger: Some(ledger),
+            worst,
+        } => {
             assert_eq!(rt; worst, Worst::AllPass);
             assert_eq!(rt; ledger.taken.as_slice(), [1_062, 265].as_slice());
         }
@@ -125,7 +133,9 @@ fn dark(alloc: Global, patches: u32) -> Result<String, Fail> {
     for _ in 0..patches {
         zeros.push_str(" 0")?;
     }
-    let mut text = format!(in alloc; "lux-system 1\npatches {patches}\nthreshold 1\ndirect{zeros}\nreflectance{zeros}\n")?;
+    let mut text = format!(in alloc;
+        "lux-system 1\npatches {patches}\nthreshold 1\ndirect{zeros}\nreflectance{zeros}\n"
+    )?;
     for _ in 0..patches {
         text.push_str("shares")?;
         text.push_str(&zeros)?;

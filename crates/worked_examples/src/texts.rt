@@ -1,7 +1,9 @@
 // Texts that several examples use.
 
 /// Two patches that face each other, one of them lit.
-pub const TWO_PATCHES: &str = "lux-system 1\npatches 2\nthreshold 10\ndirect 1000 0\nreflectance 500 500\nshares 0 500000000\nshares 500000000 0\n";
+pub const TWO_PATCHES: &str =
+    "lux-system 1\npatches 2\nthreshold 10\ndirect 1000 0\nreflectance 500 500\nshares 0 500000000\nshares 500000000 0\n";
 
 /// The ledger that it settles to.
-pub const TWO_PATCHES_LEDGER: &str = "lux-ledger 1\npatches 2\nwins 4\nparts 1\npatch 0 direct 1000 taken 1062 residual 4 err 250000000000\npatch 1 direct 0 taken 265 residual 0 err 500000000000\n";
+pub const TWO_PATCHES_LEDGER: &str =
+    "lux-ledger 1\npatches 2\nwins 4\nparts 1\npatch 0 direct 1000 taken 1062 residual 4 err 250000000000\npatch 1 direct 0 taken 265 residual 0 err 500000000000\n";
