@@ -60,11 +60,17 @@ impl<W: Write> StreamSink<W> {
 }
 
 impl<W: Write> Sink for StreamSink<W> {
-    ghost use Rattle.std.specs.Prelude.{None};
+    ghost use Rattle.lux_io.specs.Sinks.{Puts};
+    ghost use Rattle.lux.specs.Untold.{untold_sink};
 
-    ghost state = { λ s. record { written = None; faults = s.faults } };
+    ghost state = { λ s. untold_sink s.faults };
 
-    fn put(&mut self, piece: &[u8]) -> Result<(), Failed> {
+    // Where the stream's own bytes are known, Ok has written the whole piece.
+    fn put(&mut self, piece: &[u8]) -> Result<(), Failed>
+        ensures puts { Puts (untold_sink self.old.faults) (untold_sink self.new.faults) piece.now result }
+        ensures ok { OnOk result (Appends (W.contents self.old.stream) (W.contents self.new.stream) piece.now) }
+        ensures err { OnErr result (AppendsSome (W.contents self.old.stream) (W.contents self.new.stream) piece.now) }
+    {
         match write_whole(&mut self.stream, piece) {
             Ok(()) => Ok(()),
             Err(Failed) => {

@@ -1,5 +1,4 @@
-use Rattle.std.proofs.Common.{arith, take, ◌++◌}
-use Rattle.std.proofs.Common.{length-append}
+use Rattle.std.proofs.Common.{arith, take, ◌++◌, length-append}
 use Rattle.std.proofs.lemmas.List.{length-take}
 use Rattle.std.proofs.KnownBytes.{Consumes-trans}
 use Rattle.lux.proofs.file_shelves.load.Goals as goal

@@ -1,9 +1,8 @@
-use Rattle.std.proofs.Common.{arith, take, drop, sym, subst}
+use Rattle.std.proofs.Common.{ℕ, ◌+◌, List, Option, arith, take, drop, sym, subst}
 use Rattle.std.proofs.lemmas.List.{take_rest}
 use Rattle.std.proofs.Math.Seq.{take-add}
 use Rattle.std.specs.Io.KnownBytes.{Appends}
 use Rattle.std.proofs.KnownBytes.{Appends-trans}
-use Rattle.std.proofs.Common.{ℕ, ◌+◌, List, Option}
 use Rattle.lux.proofs.stream_sinks.write_whole.Goals as goal
 
 -- a front of a piece was written, and then a front of what was left
