@@ -84,6 +84,30 @@ module _ {F : Type 0} where
   pub each_hands_on : {V : Type 0} (memory : F) (r : Result V F) (f : F) (duty : ℕ → Option F) (n k : ℕ) → k < n → each k duty ≡ None → IsErrAnd r (λ y. y ≡ f) → (f ≢ memory → duty k ≡ Some f) → Answers memory (each n duty) r
   each_hands_on memory r f duty n k h before is answer = hands_on memory r f (duty k) (each n duty) is answer (λ here. each_fails duty n k f h before here)
 
+  -- where a test's duty is met, the test was passed
+  pub unless_met : (test : Bool) (f : F) → unless test f ≡ None → test ≡ true
+  unfolding unless
+  unless_met true f h = refl
+  unless_met false f h = absurd (cc)
+
+  -- where all duties are met, the one in front is, and those behind it are
+  pub all_met : (duty : Option F) (duties : List (Option F)) → first (duty ∷ duties) ≡ None → (duty ≡ None) × (first duties ≡ None)
+  unfolding first
+  all_met None duties h = (refl, h)
+  all_met (Some f) duties h = absurd (cc)
+
+  -- where the duties of the numbers below n are met, each of them is
+  pub each_met : (duty : ℕ → Option F) (n k : ℕ) → each n duty ≡ None → k < n → duty k ≡ None
+  unfolding each
+  each_met duty n k h inside = let e : 0 + k ≡ k = omega arith in rw e at (met_from 0 n k h inside)
+    where
+      met_from : (a n k : ℕ) → first (map duty (range_with_len a n)) ≡ None → k < n → duty (a + k) ≡ None
+      met_from a zero k h inside = absurd (omega arith)
+      met_from a (suc n) zero h inside = let e : a + 0 ≡ a = omega arith in rw e (all_met (duty a) (map duty (range_with_len (a + 1) n)) h).0
+      met_from a (suc n) (suc k) h inside =
+          let e : a + suc k ≡ (a + 1) + k = omega arith in
+          rw e (met_from (a + 1) n k (all_met (duty a) (map duty (range_with_len (a + 1) n)) h).1 (omega arith))
+
   -- where all duties are met, the value
   pub judged_ok : {V : Type 0} (duties : List (Option F)) (value : V) → first duties ≡ None → judged duties value ≡ Ok value
   judged_ok duties value h = rw h refl

@@ -111,9 +111,15 @@ left_none [] (suc k) h = (refl, omega arith)
 left_none (y ∷ xs) zero h = absurd (cc)
 left_none (y ∷ xs) (suc k) h = let more = left_none xs k h in (more.0, omega arith)
 
+-- the bytes of a line
 pub line_text_at : (text : List ℕ) (k : ℕ) (line : Piece) → slice_get (lines text) k ≡ Some line → line_text text k ≡ line.text
 unfolding line_text
 line_text_at text k line h = rw h refl
+
+-- no bytes where no line is
+pub line_text_none : (text : List ℕ) (k : ℕ) → slice_get (lines text) k ≡ None → line_text text k ≡ []
+unfolding line_text
+line_text_none text k h = rw h refl
 
 -- what reading a line shows: the line, and where the reader stands behind it
 pub record IsStep (text : List ℕ) (place read next : ℕ) : Type 0 where

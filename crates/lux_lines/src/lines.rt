@@ -1,5 +1,5 @@
 // The lines of a text, one after another.
-ghost use Rattle.std.specs.Prelude.{◌≡◌, ℕ, ◌+◌, ◌<◌, ◌≤◌, ◌^◌, drop, take, length, position, slice_get, option_map, is_some, nat_lt, IfSome, IfNone, OnSome};
+ghost use Rattle.std.specs.Prelude.{◌≡◌, ℕ, ◌+◌, ◌<◌, ◌≤◌, ◌^◌, [], drop, take, length, position, slice_get, option_map, is_some, nat_lt, IfSome, IfNone, OnSome, MatchOption};
 ghost use Rattle.std.specs.List.{before_first, position_or_len};
 ghost use Rattle.lux_lines.specs.Places.{is_newline};
 ghost use Rattle.lux_lines.specs.Lines.{without_return};
@@ -53,7 +53,7 @@ impl<'a> Lines<'a> {
         ensures line { option_map line_piece result ≡ slice_get (lines self.old.text) self.old.read }
         ensures there { is_some result ≡ nat_lt self.old.read (length (lines self.old.text)) }
         ensures number { IfSome result (λ line. line.number ≡ self.old.read + 1) }
-        ensures text { IfSome result (λ line. line.text.now ≡ line_text self.old.text self.old.read) }
+        ensures text { MatchOption result (line_text self.old.text self.old.read ≡ []) (λ line. line.text.now ≡ line_text self.old.text self.old.read) }
         ensures slice { IfSome result (λ line. line.text.now ≡ take (length line.text.now) (drop line.start self.old.text)) }
         ensures same { self.new.text ≡ self.old.text }
         ensures next { OnSome result (self.new.read ≡ self.old.read + 1) }

@@ -1,5 +1,5 @@
 -- The system text: the tests of its lines in their order, the first that fails is the refusal. The format is this project's own.
-use Rattle.std.specs.Prelude.{ℕ, ◌+◌, ◌&&◌, nat_le, List, [], ◌∷◌, ◌++◌, length, slice_index, map, codes, Result}
+use Rattle.std.specs.Prelude.{ℕ, ◌+◌, ◌&&◌, nat_le, List, [], ◌∷◌, ◌++◌, length, slice_index, codes, Result}
 use Rattle.std.specs.List.{range_with_len, flat_map}
 use Rattle.std.specs.Option.{option_map}
 use Rattle.std.specs.Str.{bytes_eq}
@@ -18,12 +18,16 @@ use Rattle.system_file.specs.Rows.{numbers, row_duty}
 abbrev pub count : List ℕ → ℕ
 count text = slice_index (numbers (line_text text 1)) 0
 
+-- the shares that line 6 and those behind it say, a line for each patch
+abbrev pub shares_in : List ℕ → ℕ → List ℕ
+shares_in text n = flat_map (λ i. numbers (line_text text (5 + i))) (range_with_len 0 n)
+
 -- the flux system that the lines say
 abbrev pub system_in : List ℕ → FluxSystem
 system_in text = record {
   threshold = slice_index (numbers (line_text text 2)) 0;
   reflectance = numbers (line_text text 4);
-  shares = flat_map (λ i. numbers (line_text text (5 + i))) (range_with_len 0 (count text));
+  shares = shares_in text (count text);
 }
 
 -- the direct flux that line 4 says
@@ -38,18 +42,27 @@ of_system (system.Reflectance patch) = Reflectance patch
 of_system (system.RowTotal patch) = RowTotal patch
 of_system system.Memory = Memory
 
-unfoldable pub text_duties : List ℕ → List (Duty SysFault)
-text_duties text =
+-- the first three lines: header, number of patches, threshold
+unfoldable pub head_duties : List ℕ → List (Duty SysFault)
+head_duties text =
     unless (bytes_eq (line_text text 0) (codes "lux-system 1")) Header
     ∷ row_duty text 1 (codes "patches") 1
     ∷ unless (nat_le 1 (count text) && nat_le (count text) MOST_PATCHES) (Size (count text))
     ∷ row_duty text 2 (codes "threshold") 1
-    ∷ row_duty text 3 (codes "direct") (count text)
-    ∷ row_duty text 4 (codes "reflectance") (count text)
-    ∷ each (count text) (λ i. row_duty text (5 + i) (codes "shares") (count text))
-    ∷ unless (nat_le (length (lines text)) (5 + count text)) (Trailing (6 + count text))
-    ∷ option_map of_system (first (system_duties (system_in text)))
     ∷ []
+
+-- the lines behind them: direct flux, reflectances, a row of shares for each patch, and no more
+unfoldable pub list_duties : List ℕ → ℕ → List (Duty SysFault)
+list_duties text n =
+    row_duty text 3 (codes "direct") n
+    ∷ row_duty text 4 (codes "reflectance") n
+    ∷ each n (λ i. row_duty text (5 + i) (codes "shares") n)
+    ∷ unless (nat_le (length (lines text)) (5 + n)) (Trailing (6 + n))
+    ∷ []
+
+-- all lines, and then the numbers as a flux system
+unfoldable pub text_duties : List ℕ → List (Duty SysFault)
+text_duties text = head_duties text ++ (list_duties text (count text) ++ option_map of_system (first (system_duties (system_in text))) ∷ [])
 
 -- the flux system and the direct flux of a text, or its refusal
 abbrev pub system_of : List ℕ → Result (FluxSystem × List ℕ) SysFault

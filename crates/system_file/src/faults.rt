@@ -1,7 +1,9 @@
 // Why a text is no system text.
 ghost use Rattle.std.specs.Prelude.{◌≡◌};
 ghost use Rattle.system_file.specs.declared.faults.SysFault.TheVariants.{Memory};
+ghost use Rattle.system_file.specs.SystemText.{of_system};
 
+use flux_system::SystemFault;
 use std::alloc::{AllocError, AllocFailed};
 use thiserror::Error;
 
@@ -35,4 +37,34 @@ pub enum SysFault {
     /// No memory was found.
     #[error("out of memory")]
     Memory,
+}
+
+impl From<AllocError> for SysFault {
+    ghost from_gives = { λ _ fault. fault ≡ Memory };
+
+    fn from(_error: AllocError) -> SysFault {
+        SysFault::Memory
+    }
+}
+
+impl<T: Drop> From<AllocFailed<T>> for SysFault {
+    ghost from_gives = { λ _ fault. fault ≡ Memory };
+
+    fn from(_error: AllocFailed<T>) -> SysFault {
+        SysFault::Memory
+    }
+}
+
+impl From<SystemFault> for SysFault {
+    ghost from_gives = { λ refusal fault. fault ≡ of_system refusal };
+
+    fn from(refusal: SystemFault) -> SysFault {
+        match refusal {
+            SystemFault::Size { n } => SysFault::Size { n },
+            SystemFault::Threshold => SysFault::Threshold,
+            SystemFault::Reflectance { patch } => SysFault::Reflectance { patch },
+            SystemFault::RowTotal { patch } => SysFault::RowTotal { patch },
+            SystemFault::Memory => SysFault::Memory,
+        }
+    }
 }

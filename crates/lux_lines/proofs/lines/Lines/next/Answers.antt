@@ -4,7 +4,7 @@ use Rattle.std.proofs.lemmas.Bool.Decides.{nat_tests}
 use Rattle.lux_lines.specs.Places.{is_newline}
 use Rattle.lux_lines.specs.Lines.{without_return, line_at}
 use Rattle.lux_lines.specs.Pieces.{line_piece}
-use Rattle.lux_lines.proofs.Steps.{step_inside, step_last, no_line, line_text_at, line_there}
+use Rattle.lux_lines.proofs.Steps.{step_inside, step_last, no_line, line_text_at, line_text_none, line_there}
 use Rattle.lux_lines.proofs.lines.Lines.next.Goals as goal
 use Rattle.lux_lines.proofs.lines.Lines.next.Goals.{then-content-self, else-content-self}
 
@@ -18,6 +18,11 @@ returns-then-self-clause-there c =
     let s = c.self.inside in
     let none = no_line s.text.now s.at s.read c.self.invariant c.if-self.true in
     rw (← c.self.view_is) (grind (arith, nat_tests))
+
+pub returns-then-self-clause-text : goal.returns-then-self-clause-text
+returns-then-self-clause-text c =
+    let s = c.self.inside in
+    rw (← c.self.view_is) (line_text_none s.text.now s.read (no_line s.text.now s.at s.read c.self.invariant c.if-self.true).0)
 
 pub invariant_of-self : goal.invariant_of-self
 invariant_of-self c =

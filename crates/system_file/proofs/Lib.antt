@@ -1,0 +1,3 @@
+pub mod Saturation
+pub mod Reading
+pub mod Whole
