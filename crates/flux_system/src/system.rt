@@ -1,5 +1,5 @@
 // A valid flux system.
-ghost use Rattle.std.specs.Prelude.{◌≡◌, ◌<◌, ◌≤◌, ◌*◌, ◌^◌, IfOk, length, slice_index, sum};
+ghost use Rattle.std.specs.Prelude.{◌≡◌, ◌<◌, ◌≤◌, ◌*◌, ◌^◌, IfOk, OnOk, length, slice_index, sum};
 ghost use Rattle.duties.specs.Duties.{first, judged, Answers};
 ghost use Rattle.flux_system.specs.Sums.{least_below};
 ghost use Rattle.flux_system.specs.System.{patches, coefficient, row_of, keep, least_keep, bound_of_takes};
@@ -137,7 +137,8 @@ impl System {
     /// How often a direct flux, in nanolumens for each patch, can be taken at most, unless it is past the limits.
     pub fn takes_bound(&self, direct: &[u64]) -> Result<u128, LimitFault>
         requires { length direct.now ≡ patches self.now }
-        ensures { result ≡ judged (limit_duties self.now direct.now) (bound_of_takes self.now direct.now) }
+        ensures answer { result ≡ judged (limit_duties self.now direct.now) (bound_of_takes self.now direct.now) }
+        ensures flux { OnOk result (sum direct.now ≤ 10 ^ 16) }
     {
         prove_eq!(direct.len(), self.len());
         let sum = total_flux(direct);
