@@ -1,8 +1,11 @@
 // Ledgers: settled, and as text.
+ghost use Rattle.std.specs.Prelude.{◌≡◌, ◌∷◌, [], IfOk};
+
 use crate::texts::TWO_PATCHES_LEDGER;
 use flux_ledger::{Amounts, Ledger, ledger_text};
 use flux_system::System;
 use shot_core::{Settler, serial, settle};
+use std::alloc::{AllocError, Global};
 use std::test::Fail;
 
 #[test]
@@ -58,17 +61,21 @@ fn a_settled_ledger_stays(rt: HostRuntime) -> Result<(), Fail> {
     Ok(())
 }
 
+// A list of one number.
+fn one(alloc: Global, value: u64) -> Result<Amounts, AllocError>
+    ensures { IfOk result (λ list. list ≡ value ∷ []) }
+{
+    Ok(Amounts::from_vec([value].to_vec(alloc)?))
+}
+
 #[test]
 fn a_ledger_text_has_its_greatest_numbers(rt: HostRuntime) -> Result<(), Fail> {
     let alloc = rt.alloc();
-    let one = |value: u64| -> Result<Amounts, Fail> {
-        Ok(Amounts::from_vec([value].to_vec(alloc)?))
-    };
     let ledger = Ledger {
-        direct: one(u64::MAX)?,
-        taken: one(0)?,
-        residual: one(10)?,
-        err: one(1)?,
+        direct: one(alloc, u64::MAX)?,
+        taken: one(alloc, 0)?,
+        residual: one(alloc, 10)?,
+        err: one(alloc, 1)?,
         parts: u32::MAX,
         wins: u64::MAX,
     };

@@ -2,7 +2,7 @@
 use crate::fakes::file;
 use crate::texts::{TWO_PATCHES, TWO_PATCHES_LEDGER};
 use lux_io::{FreeGate, MemShelf, MemSink, Name};
-use lux_top::{Answer, Worst, lux, solve};
+use lux_top::{Answer, Outcome, Worst, lux, solve};
 use std::alloc::Global;
 use std::test::Fail;
 
@@ -98,16 +98,15 @@ fn done_names_the_ledger(rt: HostRuntime) -> Result<(), Fail> {
     let mut out = MemSink::new(alloc, 1_000, &[])?;
     let mut notes = MemSink::new(alloc, 0, &[])?;
     let name = Name::new(alloc, "s")?;
-    match solve(alloc, &name, &mut shelf, &mut out, &mut notes).answer {
-        Answer::Done {
-            ledger: Some(ledger),
-            worst,
-        } => {
-            assert_eq!(rt; worst, Worst::AllPass);
-            assert_eq!(rt; ledger.taken.as_slice(), [1_062, 265].as_slice());
-        }
-        _ => assert!(rt; false, "the answer is not Done"),
-    }
+    let outcome = solve(alloc, &name, &mut shelf, &mut out, &mut notes);
+    let Outcome { status, answer } = outcome;
+    assert_eq!(rt; status, 0);
+    let Answer::Done { ledger, worst } = answer else {
+        return Err(Fail::from("the answer is not Done"));
+    };
+    assert_eq!(rt; worst, Worst::AllPass);
+    let ledger = ledger.ok_or("the answer has no ledger")?;
+    assert_eq!(rt; ledger.taken.as_slice(), [1_062, 265].as_slice());
     Ok(())
 }
 
