@@ -1,5 +1,5 @@
 -- A ledger whose accounts balance conserves the direct flux, so its numbers are bounded; and where it is paid, its wins are few.
-use Rattle.std.proofs.Common.{◌≡◌, ℕ, ◌+◌, ◌*◌, ◌<◌, ◌≤◌, length, get_or, ap, ◌∙◌, arith}
+use Rattle.std.proofs.Common.{◌≡◌, ℕ, ◌+◌, ◌*◌, ◌<◌, ◌≤◌, get_or, ap, ◌∙◌, arith}
 use Rattle.std.specs.List.{sum}
 use Rattle.std.proofs.lemmas.Nat.{mul-le}
 use Rattle.flux_system.specs.Sums.{sum_below}

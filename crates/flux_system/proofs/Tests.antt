@@ -1,45 +1,19 @@
 -- What the tests of a system say: which one refuses it, and that it is valid where none does.
-use Rattle.std.proofs.Common.{◌≡◌, ℕ, ◌+◌, ◌*◌, ◌<◌, ◌≤◌, ◌^◌, Bool, true, false, leb, eqb, ◌&&◌, List, [], ◌∷◌, length, Option, Some, None, map, zero, suc, refl, sym, ap, ◌∙◌, arith}
+use Rattle.std.proofs.Common.{◌≡◌, ℕ, ◌*◌, ◌<◌, ◌≤◌, ◌^◌, Bool, true, false, leb, eqb, ◌&&◌, [], ◌∷◌, length, Option, Some, None, refl, ◌∙◌, arith}
 use Rattle.std.specs.Prelude.{slice_index}
-use Rattle.std.specs.List.{range_with_len}
 use Rattle.std.proofs.lemmas.Bool.{leb-true, ltb-true, eqb-true, le-leb, lt-leb, lt-ltb, le-ltb, eq-eqb, ne_eqb, and_parts, and_from, and_left, and_right}
-use Rattle.duties.specs.Duties.{first, each, unless}
-use Rattle.duties.proofs.Orders.{this_met, this_fails, unless_holds, unless_fails}
+use Rattle.duties.specs.Duties.{first, each}
+use Rattle.duties.proofs.Orders.{this_met, this_fails, unless_holds, unless_fails, unless_met, all_met, each_met}
 use Rattle.flux_system.specs.declared.TheConstants.{MOST_PATCHES}
 use Rattle.flux_system.specs.declared.faults.SystemFault.{SystemFault}
 use Rattle.flux_system.specs.declared.faults.SystemFault.TheVariants.{Size, Threshold, Reflectance, RowTotal}
 use Rattle.flux_system.specs.System.{FluxSystem, patches, row_total}
 use Rattle.flux_system.specs.Validity.{IsSystem, reflectance_duty, row_duty, system_duties}
 
-module _ {F : Type 0} where
-  -- where no duty fails, neither the front one nor a later one does
-  front_and_later : (duty : Option F) (later : List (Option F)) → first (duty ∷ later) ≡ None → (duty ≡ None) × (first later ≡ None)
-  unfolding first
-  front_and_later None later h = (refl, h)
-  front_and_later (Some f) later h = cc
-
-  listed_met : (duty : ℕ → Option F) (a n k : ℕ) → first (map duty (range_with_len a n)) ≡ None → k < n → duty (a + k) ≡ None
-  listed_met duty a zero k h lt = absurd (omega arith)
-  listed_met duty a (suc n) zero h lt = let at : a + zero ≡ a = omega arith in rw at (front_and_later (duty a) _ h).0
-  listed_met duty a (suc n) (suc k) h lt =
-      let at : (a + 1) + k ≡ a + suc k = omega arith in
-      ap duty (sym at) ∙ listed_met duty (a + 1) n k (front_and_later (duty a) _ h).1 (omega arith)
-
-  -- where all of many duties are met, each is
-  pub each_met : (duty : ℕ → Option F) (n k : ℕ) → each n duty ≡ None → k < n → duty k ≡ None
-  unfolding each
-  each_met duty n k h lt = let at : 0 + k ≡ k = omega arith in ap duty (sym at) ∙ listed_met duty 0 n k h lt
-
-  -- a test that doesn't fail is passed
-  pub unless_met : (test : Bool) (f : F) → unless test f ≡ None → test ≡ true
-  unfolding unless
-  unless_met true f h = refl
-  unless_met false f h = cc
-
-  pub first_of_one : (duty : Option F) → first (duty ∷ []) ≡ duty
-  unfolding first
-  first_of_one None = refl
-  first_of_one (Some f) = refl
+first_of_one : {F : Type 0} (duty : Option F) → first (duty ∷ []) ≡ duty
+unfolding first
+first_of_one None = refl
+first_of_one (Some f) = refl
 
 -- the first two tests
 abbrev has_size : FluxSystem → Bool
@@ -104,10 +78,10 @@ reflectances_met s met i h = leb-true _ _ (unless_met _ _ (each_met (reflectance
 pub valid_where_met : (s : FluxSystem) → first (system_duties s) ≡ None → IsSystem s
 unfolding system_duties
 valid_where_met s met =
-    let a = front_and_later _ _ met in
-    let b = front_and_later _ _ a.1 in
-    let c = front_and_later _ _ b.1 in
-    let d = front_and_later _ _ c.1 in
+    let a = all_met _ _ met in
+    let b = all_met _ _ a.1 in
+    let c = all_met _ _ b.1 in
+    let d = all_met _ _ c.1 in
     let size = and_parts _ _ (unless_met _ _ a.0) in
     let range = and_parts _ _ size.0 in
     let limits = and_parts _ _ (unless_met _ _ b.0) in

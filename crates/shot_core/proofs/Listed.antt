@@ -1,5 +1,5 @@
--- Lists that are made place by place, and numbers that are cut by the scale.
-use Rattle.std.proofs.Common.{◌≡◌, ◌≢◌, ℕ, ◌+◌, ◌*◌, ◌/◌, ◌%◌, ◌<◌, ◌≤◌, below_more, get_or-set_same, get_or-set_other, List, [], ◌∷◌, zero, suc, map, length, get_or, set, refl, ◌∙◌, arith}
+-- Lists that are made place by place.
+use Rattle.std.proofs.Common.{◌≡◌, ◌≢◌, ℕ, ◌+◌, ◌<◌, ◌≤◌, below_more, get_or-set_same, get_or-set_other, List, [], ◌∷◌, zero, suc, map, length, get_or, set, refl, ◌∙◌, arith}
 use Rattle.std.specs.List.{range_with_len}
 use Rattle.std.proofs.lemmas.List.FromFn.{get_or-map-range_with_len, length-map-range_with_len, fill_by_all}
 
@@ -17,14 +17,6 @@ pub set-zero : (xs : List ℕ) (i : ℕ) → get_or (set xs i 0) i 0 ≡ 0
 set-zero [] i = refl
 set-zero (x ∷ xs) zero = refl
 set-zero (x ∷ xs) (suc i) = set-zero xs i
-
--- a product and a fraction, by their high and low parts
-pub regrouped : (high low share e : ℕ) → e + (high * 1000000000 + low) * share ≡ (high * share + e / 1000000000 + (low * share + e % 1000000000) / 1000000000) * 1000000000 + (low * share + e % 1000000000) % 1000000000
-regrouped high low share e = omega arith
-
--- a number by its high and low part, over the scale
-pub narrowed : (v w : ℕ) → w < 1000000000 → ((v * 1000000000 + w) / 1000000000000 ≡ v / 1000) × ((v * 1000000000 + w) % 1000000000000 ≡ v % 1000 * 1000000000 + w)
-narrowed v w h = (omega arith, omega arith)
 
 -- one more place is written
 pub written_more : (xs : List ℕ) (f : ℕ → ℕ) (j v : ℕ) → j < length xs → ((k : ℕ) → k < j → get_or xs k 0 ≡ f k) → v ≡ f j → (k : ℕ) → k < j + 1 → get_or (set xs j v) k 0 ≡ f k

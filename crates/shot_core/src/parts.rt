@@ -37,7 +37,7 @@ pub(crate) fn book(
     ensures amounts { amounts.new ≡ amounts_passed system.now patch t fractions.old }
     ensures fractions { fractions.new ≡ fractions_after system.now patch t fractions.old }
 {
-    let _patches = system.len();
+    prove_eq!(amounts.len(), system.len());
     let factor = t * u64::from(system.reflectance(patch));
     let (high, low) = (factor / BILLION, factor % BILLION);
     for (target, share) in system.row(patch).iter().enumerate() {

@@ -70,7 +70,7 @@ fn settle_over(system: &System, amounts: &mut [u64], ledger: &mut Ledger)
     ensures direct { ledger.new.direct ≡ ledger.old.direct }
     ensures parts { ledger.new.parts ≡ ledger.old.parts }
 {
-    let _patches = system.len();
+    prove_eq!(amounts.len(), system.len());
     let threshold = system.threshold();
     let mut place = brightest_place(ledger.residual.as_slice());
     while ledger.residual.get(place) >= threshold {

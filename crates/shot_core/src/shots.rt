@@ -19,7 +19,7 @@ pub(crate) fn shoot(system: &System, patch: usize, amounts: &mut [u64], ledger: 
     requires amounts { length amounts.old ≡ patches system.now }
     ensures { ledger.new ≡ shot system.now ledger.old patch }
 {
-    let _patches = system.len();
+    prove_eq!(amounts.len(), system.len());
     let t = ledger.residual.get(patch);
     let taken = ledger.taken.get(patch);
     ledger.taken.set(patch, taken + t);

@@ -12,7 +12,7 @@ get-requires c = let long = row_length c.args.system.now c.args.patch _ c.row-sh
 pub split_parts-amount-requires-clause-share : goal.split_parts-amount-requires-clause-share
 split_parts-amount-requires-clause-share c =
     let long = row_length c.args.system.now c.args.patch _ c.row-share-items.ensures in
-    let small = share-lt c.args.system.now c.args.patch _ c.row-share-items.ensures c.len-patches.ensures.system c.requires.patch c.loop-target.target (omega arith) in
+    let small = share-lt c.args.system.now c.args.patch _ c.row-share-items.ensures c.len.ensures.system c.requires.patch c.loop-target.target (omega arith) in
     omega arith
 
 pub bounds-amounts-target : goal.bounds-amounts-target

@@ -20,13 +20,13 @@ loop-amounts-smaller c =
     let long = i.balanced.lengths.of_residual in
     let inside : c.loop-amounts.place < patches s = omega arith in
     let enough : s.threshold ≤ get_or l.residual c.loop-amounts.place 0 = omega arith in
-    subst (λ (x : Ledger). unshot s x < unshot s l) (sym c.shoot.ensures) (lowered s c.len-patches.ensures.system l i.balanced i.paid limit c.loop-amounts.place inside enough)
+    subst (λ (x : Ledger). unshot s x < unshot s l) (sym c.shoot.ensures) (lowered s c.len.ensures.system l i.balanced i.paid limit c.loop-amounts.place inside enough)
 
 pub loop-amounts-preserved : goal.loop-amounts-preserved
 loop-amounts-preserved c =
     let i = c.loop-amounts.invariant in
     let s = c.args.system.now in
-    let valid = c.len-patches.ensures.system in
+    let valid = c.len.ensures.system in
     let l = c.loop-amounts.ledger in
     let place : ℕ = c.loop-amounts.place in
     let flux = ap sum i.direct in
@@ -55,4 +55,4 @@ returns-clause-settled c =
     let l = c.loop-amounts.ledger in
     let low : get_or l.residual c.loop-amounts.place 0 < s.threshold = omega arith in
     let rests : get_or l.residual (brightest l.residual) 0 < s.threshold = subst (λ (k : ℕ). get_or l.residual k 0 < s.threshold) i.first low in
-    sym (settled_done s c.len-patches.ensures.system l (balances s l i.balanced) rests) ∙ i.alike
+    sym (settled_done s c.len.ensures.system l (balances s l i.balanced) rests) ∙ i.alike
