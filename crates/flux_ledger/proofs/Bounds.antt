@@ -8,7 +8,7 @@ use Rattle.flux_system.specs.Validity.{IsSystem}
 use Rattle.flux_system.proofs.Sums.{sum-same, sum-add, sum-scale, sum-swap, sum-le, le-sum, sum-places}
 use Rattle.flux_system.proofs.Keeping.{keep-above, least_keep-above, least_keep-le}
 use Rattle.flux_ledger.specs.declared.ledger.Ledger.{Ledger}
-use Rattle.flux_ledger.specs.Balance.{HasPatches, passed_to, IsBalanced, IsPaid}
+use Rattle.flux_ledger.specs.Balance.{HasPatches, passed_to, unshot_at, IsBalanced, IsPaid}
 
 -- a balanced ledger, but for its wins
 pub record Balances (s : FluxSystem) (l : Ledger) : Type 0 where
@@ -18,10 +18,6 @@ pub record Balances (s : FluxSystem) (l : Ledger) : Type 0 where
 
 pub balances : (s : FluxSystem) (l : Ledger) → IsBalanced s l → Balances s l
 balances s l b = record { lengths = b.lengths; balance = b.balance; fractions = b.fractions }
-
--- what was taken of patch j, and what is unshot there, in parts of a nanolumen
-abbrev pub unshot_at : Ledger → ℕ → ℕ
-unshot_at l j = scale * get_or l.residual j 0 + get_or l.err j 0
 
 module _ (s : FluxSystem) (valid : IsSystem s) (l : Ledger) (b : Balances s l) where
   -- the direct flux, patch by patch

@@ -8,6 +8,14 @@ use Rattle.flux_ledger.specs.declared.ledger.Ledger.{Ledger}
 abbrev pub passed_to : FluxSystem → List ℕ → ℕ → ℕ
 passed_to s taken j = sum_below (patches s) (λ i. slice_index taken i * coefficient s i j)
 
+-- what reached patch j and is not taken yet, its fraction with it, in parts of a nanolumen
+abbrev pub unshot_at : Ledger → ℕ → ℕ
+unshot_at l j = scale * slice_index l.residual j + slice_index l.err j
+
+-- what is not taken yet at all patches together, in parts of a nanolumen
+abbrev pub unshot : FluxSystem → Ledger → ℕ
+unshot s l = sum_below (patches s) (unshot_at l)
+
 -- each list has a number for each patch
 pub record HasPatches (n : ℕ) (l : Ledger) : Type 0 where
   pub of_direct : length l.direct ≡ n

@@ -9,7 +9,8 @@ use Rattle.flux_system.proofs.Keeping.{keep-above}
 use Rattle.flux_ledger.specs.declared.ledger.Ledger.{Ledger}
 use Rattle.flux_ledger.proofs.Bounds.{Balances}
 use Rattle.shot_core.specs.Shots.{shot}
-use Rattle.shot_core.specs.Settling.{brightest, reaches, unshot, settled_within, settled}
+use Rattle.shot_core.specs.Settling.{brightest, reaches, settled_within, settled}
+use Rattle.flux_ledger.specs.Balance.{unshot}
 use Rattle.shot_core.proofs.Keeping.{shot_balances, unshot_after}
 
 module _ (s : FluxSystem) (valid : IsSystem s) where

@@ -13,7 +13,7 @@ use Rattle.flux_ledger.specs.declared.ledger.Ledger.{Ledger}
 use Rattle.flux_ledger.specs.Balance.{IsBalanced, IsPaid, passed_to}
 use Rattle.flux_ledger.proofs.Bounds.{Balances, balances, balanced, taken_bound, residual_bound, wins_bound}
 use Rattle.shot_core.specs.Shots.{shot, parts_after}
-use Rattle.shot_core.specs.Settling.{unshot}
+use Rattle.flux_ledger.specs.Balance.{unshot}
 use Rattle.shot_core.proofs.Listed.{listed-at, listed-length, set-zero}
 
 module _ (s : FluxSystem) (l : Ledger) (i : ℕ) (inside : i < patches s) (b : Balances s l) where

@@ -1,9 +1,9 @@
 -- The settled ledger: the first patch of the greatest residual shoots, again and again while that residual reaches the threshold
 -- (the order of progressive refinement, Cohen, Chen, Wallace and Greenberg 1988).
-use Rattle.std.specs.Prelude.{ℕ, ◌+◌, ◌*◌, ◌==◌, Bool, if◌then◌else◌, nat_le, max, List, fold, position, unwrap_or, slice_index, replicate}
+use Rattle.std.specs.Prelude.{ℕ, ◌==◌, Bool, if◌then◌else◌, nat_le, max, List, fold, position, unwrap_or, slice_index, replicate}
 use Rattle.std.proofs.Common.{zero, suc}
-use Rattle.flux_system.specs.Sums.{sum_below}
-use Rattle.flux_system.specs.System.{FluxSystem, scale, patches}
+use Rattle.flux_system.specs.System.{FluxSystem, patches}
+use Rattle.flux_ledger.specs.Balance.{unshot}
 use Rattle.flux_ledger.specs.declared.ledger.Ledger.{Ledger}
 use Rattle.shot_core.specs.Shots.{shot}
 
@@ -24,11 +24,7 @@ abbrev pub settled_within : ℕ → FluxSystem → Ledger → Ledger
 settled_within zero s l = l
 settled_within (suc shots) s l = if reaches s l then settled_within shots s (shot s l (brightest l.residual)) else l
 
--- what is not shot yet, in parts of a nanolumen, fractions with it: each shot lowers it by what the patch keeps, so there are fewer shots than this
-abbrev pub unshot : FluxSystem → Ledger → ℕ
-unshot s l = sum_below (patches s) (λ j. scale * slice_index l.residual j + slice_index l.err j)
-
--- the ledger that all those shots lead to
+-- the ledger that all those shots lead to: each shot lowers what is unshot by what the patch keeps, so there are fewer shots than parts of it
 abbrev pub settled : FluxSystem → Ledger → Ledger
 settled s l = settled_within (unshot s l) s l
 

@@ -5,7 +5,8 @@ use Rattle.flux_ledger.specs.declared.ledger.Ledger.{Ledger}
 use Rattle.flux_ledger.specs.Balance.{IsBalanced, IsPaid}
 use Rattle.flux_ledger.proofs.Bounds.{balances}
 use Rattle.shot_core.specs.Shots.{shot}
-use Rattle.shot_core.specs.Settling.{brightest, settled, unshot}
+use Rattle.shot_core.specs.Settling.{brightest, settled}
+use Rattle.flux_ledger.specs.Balance.{unshot}
 use Rattle.shot_core.proofs.Keeping.{kept_paid, kept_balanced, lowered}
 use Rattle.shot_core.proofs.Ending.{settled_on, settled_done}
 use Rattle.shot_core.proofs.settling.settle_over.Goals as goal

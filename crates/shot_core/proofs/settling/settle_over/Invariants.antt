@@ -1,6 +1,7 @@
 use Rattle.std.proofs.Common.{◌≡◌, ℕ, ◌<◌, ◌≤◌, length, get_or}
 use Rattle.flux_ledger.specs.Balance.{IsBalanced, IsPaid}
-use Rattle.shot_core.specs.Settling.{brightest, settled, unshot}
+use Rattle.shot_core.specs.Settling.{brightest, settled}
+use Rattle.flux_ledger.specs.Balance.{unshot}
 use Rattle.shot_core.proofs.settling.settle_over.Given as goal
 
 abbrev pub invariant-loop-amounts : goal.invariant-loop-amounts
