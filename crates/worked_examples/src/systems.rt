@@ -105,37 +105,18 @@ fn a_text_says_its_system(rt: HostRuntime) -> Result<(), Fail> {
     Ok(())
 }
 
+// The folders of examples/cases hold many more.
 #[test]
 fn a_text_is_refused_by_its_first_fault(rt: HostRuntime) -> Result<(), Fail> {
     let alloc = rt.alloc();
-    let rows: [(&str, SysFault); 22] = [
-        ("", SysFault::Header),
+    let rows: [(&str, SysFault); 8] = [
         ("lux-system 2\n", SysFault::Header),
-        (" lux-system 1\n", SysFault::Header),
-        ("\u{feff}lux-system 1\npatches 1\n", SysFault::Header),
         ("lux-system 1", SysFault::Short),
-        ("lux-system 1\npatches", SysFault::Number { line: 2 }),
         ("lux-system 1\npatches 01", SysFault::Number { line: 2 }),
-        ("lux-system 1\npatches  1", SysFault::Number { line: 2 }),
-        ("lux-system 1\npatches\t1", SysFault::Number { line: 2 }),
-        ("lux-system 1\npatches 1 ", SysFault::Number { line: 2 }),
-        (
-            "lux-system 1\npatches 18446744073709551616",
-            SysFault::Number { line: 2 },
-        ),
-        (
-            "lux-system 1\npatches 18446744073709551615",
-            SysFault::Size { n: u64::MAX },
-        ),
-        ("lux-system 1\npatches 0\nnothing", SysFault::Size { n: 0 }),
         ("lux-system 1\npatches 1025", SysFault::Size { n: 1_025 }),
         (
-            "lux-system 1\npatches 1024\n\n",
-            SysFault::Number { line: 3 },
-        ),
-        (
-            "lux-system 1\npatches 1\nthreshold 1\ndirect 1 1\n",
-            SysFault::Number { line: 4 },
+            "lux-system 1\npatches 1\nthreshold 0\ndirect 1\nreflectance 0\nshares 0\nx",
+            SysFault::Trailing { line: 7 },
         ),
         (
             "lux-system 1\npatches 1\nthreshold 0\ndirect 1\nreflectance 951\nshares 0",
@@ -148,18 +129,6 @@ fn a_text_is_refused_by_its_first_fault(rt: HostRuntime) -> Result<(), Fail> {
         (
             "lux-system 1\npatches 1\nthreshold 1\ndirect 1\nreflectance 0\nshares 18446744073709551615",
             SysFault::RowTotal { patch: 0 },
-        ),
-        (
-            "lux-system 1\npatches 1\nthreshold 1\ndirect 1\nreflectance 0\nshares 0\n\n",
-            SysFault::Trailing { line: 7 },
-        ),
-        (
-            "lux-system 1\npatches 1\nthreshold 0\ndirect 1\nreflectance 0\nshares 0\nx",
-            SysFault::Trailing { line: 7 },
-        ),
-        (
-            "lux-system 1\npatches 1\nthreshold 1\ndirect 1\nreflectance 0\n",
-            SysFault::Short,
         ),
     ];
     for (text, expected) in rows {
