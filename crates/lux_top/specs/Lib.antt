@@ -1,5 +1,6 @@
 pub mod Answers
 pub mod CommandRows
+pub mod IntervalLines
 pub mod Notes
 pub mod Plans
 pub mod Ready

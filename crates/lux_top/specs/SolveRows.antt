@@ -1,11 +1,11 @@
 -- When each answer of `solve` comes, in plain words: one row for each answer.
 use Rattle.std.specs.Prelude.{◌≡◌, ℕ, List, Result, Ok, Err, Option, Some, None}
 use Rattle.duties.specs.Duties.{first}
+use Rattle.enclosure.specs.Interval.{EnclosesAll}
 use Rattle.flux_system.specs.System.{FluxSystem}
 use Rattle.flux_system.specs.Limits.{limit_duties}
 use Rattle.flux_ledger.specs.declared.ledger.Ledger.{Ledger}
 use Rattle.flux_ledger.specs.Balance.{IsBalanced, IsFinished, IsPaid}
-use Rattle.flux_ledger.specs.LedgerText as ledger_text
 use Rattle.lux_io.specs.Shelves.{ShelfState, Rose, IsFile, IsOverlong}
 use Rattle.lux_io.specs.Sinks.{Wrote, WroteSome}
 use Rattle.lux_io.specs.declared.blames.Count.TheVariants.{Faults, Overlong}
@@ -18,6 +18,7 @@ use Rattle.lux_top.specs.declared.answers.Worst.{Worst}
 use Rattle.lux_top.specs.declared.answers.Worst.TheVariants.{AllPass}
 use Rattle.lux_top.specs.Notes.{Noted}
 use Rattle.lux_top.specs.Ready.{Writing}
+use Rattle.lux_top.specs.Solving.{ledger_with_intervals}
 use Rattle.lux_top.specs.Runs.{World, Refused}
 
 -- the file has a text that says this flux system and this direct flux
@@ -30,36 +31,37 @@ pub record IsFileProblem (shelf : ShelfState) (name : List ℕ) (problem : FluxS
 abbrev pub IsWithinLimits : FluxSystem × List ℕ → Type 0
 IsWithinLimits problem = first (limit_duties problem.0 problem.1) ≡ None
 
--- the settled ledger of a flux system and a direct flux: finished, balanced and paid, of one account
-pub record IsSolution (system : FluxSystem) (flux : List ℕ) (ledger : Ledger) : Type 0 where
+-- the settled ledger of a flux system and a direct flux: finished, balanced and paid, of one account; its intervals enclose every exact solution
+pub record IsSettledLedger (system : FluxSystem) (flux : List ℕ) (ledger : Ledger) : Type 0 where
   pub settles : ledger ≡ settled system (untouched system flux)
   pub finished : IsFinished system ledger
   pub balanced : IsBalanced system ledger
   pub paid : IsPaid system ledger
   pub same_flux : ledger.direct ≡ flux
   pub one_account : ledger.parts ≡ 1
+  pub encloses : EnclosesAll system ledger
 
--- the ledger is the solution of what the file says, which is within the limits
+-- the ledger is the settled one of what the file says, which is within the limits
 pub record IsSolvedBy (shelf : ShelfState) (name : List ℕ) (ledger : Ledger) : Type 0 where
   pub problem : FluxSystem × List ℕ
   pub is_read : IsFileProblem shelf name problem
   pub within_limits : IsWithinLimits problem
-  pub solution : IsSolution problem.0 problem.1 ledger
+  pub is_settled : IsSettledLedger problem.0 problem.1 ledger
 
--- the file was solved, all of the ledger's text was written, and no note was put
+-- the file was solved, all of the ledger's text with its intervals was written, and no note was put
 pub record IsSolved (name : List ℕ) (before after : World) (answered : Option Ledger) (worst : Worst) : Type 0 where
   pub ledger : Ledger
   pub is_answered : answered ≡ Some ledger
   pub solved : IsSolvedBy before.shelf name ledger
   pub all_pass : worst ≡ AllPass
-  pub wrote : Wrote before.out after.out (ledger_text.text_of ledger)
+  pub wrote : Wrote before.out after.out (ledger_with_intervals solved.problem.0 ledger)
   pub no_note : after.notes ≡ before.notes
 
--- the file was solved, and the output had a fault and took a part of the ledger's text from the front
+-- the file was solved, and the output had a fault and took a part of that text from the front
 pub record IsCutOff (name : List ℕ) (before after : World) : Type 0 where
   pub ledger : Ledger
   pub solved : IsSolvedBy before.shelf name ledger
-  pub wrote : WroteSome before.out after.out (ledger_text.text_of ledger)
+  pub wrote : WroteSome before.out after.out (ledger_with_intervals solved.problem.0 ledger)
   pub noted : Noted Write before.notes after.notes
 
 -- why a file is refused: this read failed; or found too many bytes; the file has no system text, with its first fault;
@@ -91,19 +93,19 @@ abbrev pub LimitRefusal : FluxSystem × List ℕ → Answer → Type 0
 LimitRefusal problem (Limits fault) = first (limit_duties problem.0 problem.1) ≡ Some fault
 LimitRefusal problem _ = ⊥
 
--- this solution and its text are ready to be written
-pub record Carries (ledger : Ledger) (writing : Writing) : Type 0 where
+-- this ledger and its text with its intervals are ready to be written
+pub record Carries (system : FluxSystem) (ledger : Ledger) (writing : Writing) : Type 0 where
   pub is_done : writing.answer ≡ Done (Some ledger) AllPass
-  pub is_text : writing.bytes ≡ ledger_text.text_of ledger
+  pub is_text : writing.bytes ≡ ledger_with_intervals system ledger
 
--- what is ready to be written is a solution of the problem, and its text
-pub record IsSolutionOf (problem : FluxSystem × List ℕ) (writing : Writing) : Type 0 where
+-- what is ready to be written is the settled ledger of the problem, and its text
+pub record IsReadyFor (problem : FluxSystem × List ℕ) (writing : Writing) : Type 0 where
   pub ledger : Ledger
-  pub solution : IsSolution problem.0 problem.1 ledger
-  pub carries : Carries ledger writing
+  pub is_settled : IsSettledLedger problem.0 problem.1 ledger
+  pub carries : Carries problem.0 ledger writing
 
--- what is ready to be written is the solution of the file, and its text
+-- what is ready to be written is the settled ledger of the file, and its text
 pub record IsReady (shelf : ShelfState) (name : List ℕ) (writing : Writing) : Type 0 where
   pub ledger : Ledger
   pub solved : IsSolvedBy shelf name ledger
-  pub carries : Carries ledger writing
+  pub carries : Carries solved.problem.0 ledger writing

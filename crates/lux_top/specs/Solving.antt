@@ -1,16 +1,18 @@
--- `solve FILE`: a system text is read, and its flux settled on one thread.
-use Rattle.std.specs.Prelude.{ℕ, List, Result, Some}
+-- `solve FILE`: a system text is read, its flux settled on one thread, and what is exact enclosed.
+use Rattle.std.specs.Prelude.{ℕ, ◌++◌, List, Result, Some}
 use Rattle.duties.specs.Duties.{judged}
+use Rattle.enclosure.specs.Interval.{all_of}
 use Rattle.flux_system.specs.System.{FluxSystem}
 use Rattle.flux_system.specs.Limits.{limit_duties}
 use Rattle.flux_system.specs.declared.faults.LimitFault.{LimitFault}
 use Rattle.flux_ledger.specs.declared.ledger.Ledger.{Ledger}
-use Rattle.flux_ledger.specs.LedgerText as ledger
+use Rattle.flux_ledger.specs.LedgerText as ledger_text
 use Rattle.shot_core.specs.Settling.{settled, untouched}
 use Rattle.system_file.specs.SystemText.{system_of}
 use Rattle.lux_top.specs.declared.solving.TheConstants.{SYSTEM_LIMIT}
 use Rattle.lux_top.specs.declared.answers.Answer.TheVariants.{Done, System, Limits}
 use Rattle.lux_top.specs.declared.answers.Worst.TheVariants.{AllPass}
+use Rattle.lux_top.specs.IntervalLines.{interval_lines}
 use Rattle.lux_top.specs.Plans.{Plan, Give, file, accept, and_then}
 use Rattle.lux_top.specs.Ready.{Writing}
 
@@ -38,12 +40,16 @@ abbrev pub limited_file : List ℕ → Plan Problem
 limited_file name = and_then (system_file name) within_limits
 
 -- the ledger that settling leaves from nothing taken
-abbrev pub solution_of : Problem → Ledger
-solution_of problem = settled problem.0 (untouched problem.0 problem.1)
+abbrev pub ledger_of : Problem → Ledger
+ledger_of problem = settled problem.0 (untouched problem.0 problem.1)
 
--- the settled ledger, and its text
+-- a ledger's text, and a line for the interval of each patch
+abbrev pub ledger_with_intervals : FluxSystem → Ledger → List ℕ
+ledger_with_intervals system ledger = ledger_text.text_of ledger ++ interval_lines (all_of system ledger)
+
+-- the settled ledger, and its text with its intervals
 abbrev pub solved : Problem → Plan Writing
-solved problem = Give (record { answer = Done (Some (solution_of problem)) AllPass; bytes = ledger.text_of (solution_of problem) })
+solved problem = Give (record { answer = Done (Some (ledger_of problem)) AllPass; bytes = ledger_with_intervals problem.0 (ledger_of problem) })
 
 -- `solve FILE`
 abbrev pub solving : List ℕ → Plan Writing

@@ -9,6 +9,7 @@
 mod answers;
 mod commands;
 mod endings;
+mod interval_lines;
 mod messages;
 mod problems;
 mod readings;

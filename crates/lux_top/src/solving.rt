@@ -1,28 +1,33 @@
-// `solve FILE`: a system text is read, and its flux settled on one thread.
-ghost use Rattle.std.specs.Prelude.{◌≡◌, ◌≤◌, ◌<◌, ◌^◌, length, sum, Ok, Err, None, IfOk, IfErr};
+// `solve FILE`: a system text is read, its flux settled on one thread, and what is exact enclosed.
+ghost use Rattle.std.specs.Prelude.{◌≡◌, ◌≤◌, ◌<◌, ◌^◌, length, sum, Ok, Err, None, IfOk, IfErr, OnOk};
 ghost use Rattle.duties.specs.Duties.{first};
+ghost use Rattle.enclosure.specs.Interval.{IsDone, EnclosesAll};
 ghost use Rattle.flux_system.specs.Limits.{limit_duties};
 ghost use Rattle.system_file.specs.SystemText.{system_of};
 ghost use Rattle.lux_top.specs.Plans.{Takes, Gives};
 ghost use Rattle.lux_top.specs.Runs.{world, Follows};
-ghost use Rattle.lux_top.specs.Solving.{system_text, system_file, within_limits, limited_file, solved, solving};
-ghost use Rattle.lux_top.specs.SolveRows.{IsFileProblem, IsWithinLimits, IsReady, IsSolutionOf, SolveRefusal, SolveRow, TextRefusal, LimitRefusal};
+ghost use Rattle.lux_top.specs.Solving.{system_text, system_file, within_limits, limited_file, ledger_with_intervals, solved, solving};
+ghost use Rattle.lux_top.specs.SolveRows.{IsFileProblem, IsWithinLimits, IsReady, IsReadyFor, SolveRefusal, SolveRow, TextRefusal, LimitRefusal};
 
 use crate::endings::conclude;
+use crate::interval_lines::push_intervals;
 use crate::problems::Problem;
 use crate::readings::read_file;
 use crate::ready::Ready;
 use crate::{Answer, Outcome, Worst};
-use flux_ledger::ledger_text;
+use enclosure::all;
+use flux_ledger::{Ledger, ledger_text};
+use flux_system::System;
 use lux_io::{Name, Shelf, Sink};
 use shot_core::serial;
-use std::alloc::Global;
+use std::alloc::{AllocError, Global};
 use system_file::{SysFault, read_system};
 
 /// The most bytes of a system text.
 pub const SYSTEM_LIMIT: usize = 16_777_216;
 
-/// Reads the system text of that name, settles its flux from nothing taken, and writes the ledger's text.
+/// Reads the system text of that name, settles its flux from nothing taken, and writes the ledger's text
+/// with an interval for each patch, which encloses the exact solution.
 ///
 /// The answers are `Done` with the settled ledger, `Read`, `TooLong`, `System`, `Limits`, `Write` and `Memory`.
 pub fn solve<S: Shelf, K: Sink, N: Sink>(
@@ -51,7 +56,7 @@ fn decide<S: Shelf>(alloc: Global, name: &Name, shelf: &mut S) -> Result<Ready, 
     ensures refused { IfErr result (SolveRefusal name.now (S.state shelf.old) (S.state shelf.new)) }
 {
     match read_problem(alloc, name, shelf) {
-        Ok(problem) => solution(alloc, problem),
+        Ok(problem) => settle_problem(alloc, problem),
         Err(answer) => Err(answer),
     }
 }
@@ -109,16 +114,16 @@ fn limit(problem: Problem) -> Result<Problem, Answer>
 }
 
 // The settled ledger, and its text.
-fn solution(alloc: Global, problem: Problem) -> Result<Ready, Answer>
+fn settle_problem(alloc: Global, problem: Problem) -> Result<Ready, Answer>
     requires { IsWithinLimits problem }
     ensures given { Gives (solved problem) result }
-    ensures ready { IfOk result (IsSolutionOf problem) }
+    ensures ready { IfOk result (IsReadyFor problem) }
     ensures refused { IfErr result (λ answer. answer ≡ Answer.Memory) }
 {
     let Ok(ledger) = serial(alloc, &problem.system, &problem.flux) else {
         return Err(Answer::Memory);
     };
-    match ledger_text(alloc, &ledger) {
+    match ledger_with_intervals(alloc, &problem.system, &ledger) {
         Ok(bytes) => Ok(Ready {
             ledger: Some(ledger),
             worst: Worst::AllPass,
@@ -126,4 +131,16 @@ fn solution(alloc: Global, problem: Problem) -> Result<Ready, Answer>
         }),
         Err(_) => Err(Answer::Memory),
     }
+}
+
+// A ledger's text, and a line for the interval of each patch.
+fn ledger_with_intervals(alloc: Global, system: &System, ledger: &Ledger) -> Result<Vec<u8>, AllocError>
+    requires { IsDone system.now ledger.now }
+    ensures text { IfOk result (λ text. text.items ≡ ledger_with_intervals system.now ledger.now) }
+    ensures encloses { OnOk result (EnclosesAll system.now ledger.now) }
+{
+    let mut text = ledger_text(alloc, ledger)?;
+    let ends = all(alloc, system, ledger)?;
+    push_intervals(&mut text, &ends)?;
+    Ok(text)
 }

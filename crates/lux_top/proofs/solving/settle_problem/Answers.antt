@@ -1,7 +1,7 @@
 use Rattle.std.proofs.Common.{ℕ, List, sum, ap, ◌∙◌, arith}
 use Rattle.flux_system.specs.System.{FluxSystem}
 use Rattle.lux_top.proofs.Limited.{few_nanolumens}
-use Rattle.lux_top.proofs.solving.solution.Goals as goal
+use Rattle.lux_top.proofs.solving.settle_problem.Goals as goal
 
 pub serial-requires-clause-flux : goal.serial-requires-clause-flux
 serial-requires-clause-flux c =
