@@ -1,0 +1,4 @@
+pub mod Signed
+pub mod Rows
+pub mod Solutions
+pub mod Missing
