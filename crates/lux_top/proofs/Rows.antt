@@ -1,6 +1,8 @@
 -- The row of each answer, from what was ready or refused, and from what was then put to the sinks.
 use Rattle.std.proofs.Common.{◌≡◌, ℕ, List, inl, inr, refl, sym, ap, subst, ◌∙◌, Result, Ok, Err, Option, Some, None, IfOk, IfErr}
 use Rattle.flux_ledger.specs.declared.ledger.Ledger.{Ledger}
+use Rattle.flux_system.specs.System.{FluxSystem}
+use Rattle.lux_io.specs.Shelves.{ShelfState}
 use Rattle.lux_io.specs.Sinks.{Wrote, WroteSome}
 use Rattle.lux_top.specs.declared.answers.Answer.{Answer}
 use Rattle.lux_top.specs.declared.answers.Answer.TheVariants.{Done, Usage, Read, TooLong, System, Limits, Write, Memory}
@@ -12,7 +14,16 @@ use Rattle.lux_top.specs.Answers.{outcome_of}
 use Rattle.lux_top.specs.CommandRows.{CommandRow}
 use Rattle.lux_top.specs.Ready.{Writing}
 use Rattle.lux_top.specs.Runs.{World, Refused, Concludes, Concluded}
-use Rattle.lux_top.specs.SolveRows.{IsReady, SolveRefusal, SolveRow}
+use Rattle.lux_top.specs.SolveRows.{IsFileProblem, IsWithinLimits, IsReadyFor, IsReady, SolveRefusal, SolveRow}
+
+-- the settled ledger of a problem is that of the file which says the problem
+pub ready_of_problem : (shelf : ShelfState) (name : List ℕ) (problem : FluxSystem × List ℕ) (result : Result Writing Answer) → IsFileProblem shelf name problem → IsWithinLimits problem → IfOk result (IsReadyFor problem) → IfOk result (IsReady shelf name)
+ready_of_problem shelf name problem (Err answer) read limited ready = tt
+ready_of_problem shelf name problem (Ok writing) read limited ready = record {
+  ledger = ready.ledger;
+  solved = record { problem = problem; is_read = read; within_limits = limited; is_settled = ready.is_settled };
+  carries = ready.carries;
+}
 
 row_of_outcome : (name : List ℕ) (before after : World) (outcome : Outcome) (answer : Answer) → outcome ≡ outcome_of answer → SolveRow name before after answer → SolveRow name before after outcome.answer
 row_of_outcome name before after outcome answer is row = subst (λ (o : Outcome). SolveRow name before after o.answer) (sym is) row

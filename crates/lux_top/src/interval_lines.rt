@@ -14,11 +14,7 @@ fn push_number(text: &mut Vec<u8>, before: &[u8], number: u64) -> Result<(), All
 }
 
 // Appends the line of one patch.
-fn push_interval(
-    text: &mut Vec<u8>,
-    ends: &[(u64, u64)],
-    patch: usize,
-) -> Result<(), AllocError>
+fn push_interval(text: &mut Vec<u8>, ends: &[(u64, u64)], patch: usize) -> Result<(), AllocError>
     requires { patch < length ends.now }
     ensures { OnOk result (text.new.items ≡ text.old.items ++ interval_line ends.now patch) }
 {

@@ -134,7 +134,11 @@ fn settle_problem(alloc: Global, problem: Problem) -> Result<Ready, Answer>
 }
 
 // A ledger's text, and a line for the interval of each patch.
-fn ledger_with_intervals(alloc: Global, system: &System, ledger: &Ledger) -> Result<Vec<u8>, AllocError>
+fn ledger_with_intervals(
+    alloc: Global,
+    system: &System,
+    ledger: &Ledger,
+) -> Result<Vec<u8>, AllocError>
     requires { IsDone system.now ledger.now }
     ensures text { IfOk result (λ text. text.items ≡ ledger_with_intervals system.now ledger.now) }
     ensures encloses { OnOk result (EnclosesAll system.now ledger.now) }
