@@ -4,3 +4,8 @@
 //! what can still come in all. Both ends are defined in `specs/Interval.antt`; that they enclose every solution is a
 //! clause of the calls.
 #![tactic(auto)]
+
+mod ends;
+mod fraction;
+
+pub use ends::{all, interval, spill};

@@ -1,0 +1,32 @@
+// Fractions, which are compared with no division.
+ghost use Rattle.std.specs.Prelude.{◌≡◌, ℕ, ◌*◌, ◌<◌, max};
+ghost use Rattle.std.specs.Int.{div_ceil};
+
+// So many parts of a whole.
+#[derive(Clone, Copy)]
+pub struct Fraction {
+    pub parts: u64,
+    pub whole: u64,
+}
+
+impl Fraction {
+    // The greater of two fractions: it takes no less of any amount than the other, also where that is rounded up.
+    pub fn greater(self, other: Fraction) -> Fraction
+        requires one { 0 < self.whole }
+        requires two { 0 < other.whole }
+        ensures whole { 0 < result.whole }
+        ensures greatest { (amount : ℕ) → div_ceil (result.parts * amount) result.whole ≡ max (div_ceil (self.parts * amount) self.whole) (div_ceil (other.parts * amount) other.whole) }
+    {
+        let left = u128::from(self.parts) * u128::from(other.whole);
+        let right = u128::from(other.parts) * u128::from(self.whole);
+        if left < right { other } else { self }
+    }
+
+    // So much of an amount, rounded up.
+    pub fn of(self, amount: u64) -> u128
+        requires { 0 < self.whole }
+        ensures { result ≡ div_ceil (self.parts * amount) self.whole }
+    {
+        (u128::from(self.parts) * u128::from(amount)).div_ceil(u128::from(self.whole))
+    }
+}
