@@ -10,8 +10,9 @@ use flux_system::System;
 /// What one nanolumen is counted in.
 const SCALE: u128 = 1_000_000_000_000;
 
-/// Whether the flux of each patch is its number of `num` over `den`, in nanolumens, for a direct flux in nanolumens of at
-/// most 10^16 over all patches. Both lists have a number for each patch. No flux has 0 as its denominator.
+/// Whether the fractions `num[j] / den` are a solution for a direct flux: whether each is the flux of its patch, in
+/// nanolumens. Both lists have one number for each patch, and the direct flux is at most 10^16 nanolumens in all.
+/// A denominator of 0 is never one of a solution.
 pub fn is_solution(system: &System, direct: &[u64], num: &[u64], den: u32) -> bool
     requires direct { length direct.now ≡ patches system.now }
     requires num { length num.now ≡ patches system.now }
@@ -29,13 +30,14 @@ pub fn is_solution(system: &System, direct: &[u64], num: &[u64], den: u32) -> bo
     true
 }
 
-// Whether the equation of one patch holds.
+// Whether the equation of one patch holds, for its direct flux.
 fn holds_at(system: &System, direct: u64, num: &[u64], den: u32, patch: usize) -> bool
     requires system { IsSystem system.now }
     requires patch { patch < patches system.now }
     requires num { length num.now ≡ patches system.now }
     requires limit { direct ≤ 10 ^ 16 }
-    ensures { IsTrue result ↔ (scale * slice_index num.now patch ≡ den * (scale * direct) + sum_below (patches system.now) (λ i. coefficient system.now i patch * slice_index num.now i)) }
+    ensures { IsTrue result ↔ (scale * slice_index num.now patch
+        ≡ den * (scale * direct) + sum_below (patches system.now) (λ i. coefficient system.now i patch * slice_index num.now i)) }
 {
     let mut reaches = u128::from(den) * (SCALE * u128::from(direct));
     for (from, flux) in num.iter().enumerate() {
