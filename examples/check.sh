@@ -37,9 +37,9 @@ run() {
 
 : >"$room/nothing"
 cd "$here" || exit 1
-run two-patches two-patches.ledger.txt "" 0 solve two-patches.txt
-run store-room store-room.ledger.txt "" 0 solve store-room.system.txt
-run office office.ledger.txt "" 0 solve office.system.txt
+run two-patches two-patches.solve.txt "" 0 solve two-patches.txt
+run store-room store-room.solve.txt "" 0 solve store-room.system.txt
+run office office.solve.txt "" 0 solve office.system.txt
 
 for case in cases/*/; do
   name=$(basename "$case")

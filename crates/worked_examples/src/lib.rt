@@ -5,7 +5,11 @@
 #![tactic(auto)]
 
 #[cfg(test)]
+mod exact;
+#[cfg(test)]
 mod fakes;
+#[cfg(test)]
+mod intervals;
 #[cfg(test)]
 mod ledgers;
 #[cfg(test)]

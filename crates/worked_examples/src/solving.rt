@@ -1,6 +1,6 @@
 // `solve` over files in memory: what it writes, what it notes, and its status.
 use crate::fakes::file;
-use crate::texts::{TWO_PATCHES, TWO_PATCHES_LEDGER};
+use crate::texts::{TWO_PATCHES, TWO_PATCHES_SOLVED};
 use lux_io::{FreeGate, MemShelf, MemSink, Name};
 use lux_top::{Answer, Outcome, Worst, lux, solve};
 use std::alloc::Global;
@@ -27,17 +27,17 @@ fn shelf(alloc: Global, text: &str, failing: &[u64]) -> Result<MemShelf, Fail> {
 fn each_text_has_its_ledger_or_its_note(rt: HostRuntime) -> Result<(), Fail> {
     let alloc = rt.alloc();
     let rows: [(&str, u8, &str, &str); 5] = [
-        (TWO_PATCHES, 0, TWO_PATCHES_LEDGER, ""),
+        (TWO_PATCHES, 0, TWO_PATCHES_SOLVED, ""),
         (
             "lux-system 1\npatches 2\nthreshold 11\ndirect 10 0\nreflectance 500 500\nshares 0 500000000\nshares 500000000 0\n",
             0,
-            "lux-ledger 1\npatches 2\nwins 0\nparts 1\npatch 0 direct 10 taken 0 residual 10 err 0\npatch 1 direct 0 taken 0 residual 0 err 0\n",
+            "lux-ledger 1\npatches 2\nwins 0\nparts 1\npatch 0 direct 10 taken 0 residual 10 err 0\npatch 1 direct 0 taken 0 residual 0 err 0\ninterval 0 10 14\ninterval 1 0 4\n",
             "",
         ),
         (
             "lux-system 1\npatches 2\nthreshold 10\ndirect 10 0\nreflectance 500 500\nshares 0 500000000\nshares 500000000 0\n",
             0,
-            "lux-ledger 1\npatches 2\nwins 1\nparts 1\npatch 0 direct 10 taken 10 residual 0 err 0\npatch 1 direct 0 taken 0 residual 2 err 500000000000\n",
+            "lux-ledger 1\npatches 2\nwins 1\nparts 1\npatch 0 direct 10 taken 10 residual 0 err 0\npatch 1 direct 0 taken 0 residual 2 err 500000000000\ninterval 0 10 11\ninterval 1 2 4\n",
             "",
         ),
         (

@@ -7,3 +7,7 @@ pub const TWO_PATCHES: &str =
 /// The ledger that it settles to.
 pub const TWO_PATCHES_LEDGER: &str =
     "lux-ledger 1\npatches 2\nwins 4\nparts 1\npatch 0 direct 1000 taken 1062 residual 4 err 250000000000\npatch 1 direct 0 taken 265 residual 0 err 500000000000\n";
+
+/// The same ledger, and the interval of each patch.
+pub const TWO_PATCHES_SOLVED: &str =
+    "lux-ledger 1\npatches 2\nwins 4\nparts 1\npatch 0 direct 1000 taken 1062 residual 4 err 250000000000\npatch 1 direct 0 taken 265 residual 0 err 500000000000\ninterval 0 1066 1069\ninterval 1 265 268\n";
