@@ -1,3 +1,4 @@
 pub mod Fractions
+pub mod Greatest
 pub mod Bounds
 pub mod Enclosing

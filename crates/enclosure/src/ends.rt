@@ -1,12 +1,13 @@
 // The ends of intervals.
 ghost use Rattle.std.specs.Prelude.{◌≡◌, ℕ, ◌+◌, ◌-◌, ◌*◌, ◌<◌, ◌≤◌, ◌^◌, IfOk, All, slice_index, sum};
-ghost use Rattle.std.specs.Int.{div_ceil};
 ghost use Rattle.flux_system.specs.System.{patches};
 ghost use Rattle.flux_system.specs.Validity.{IsSystem};
 ghost use Rattle.exact_model.specs.Solution.{Encloses};
-ghost use Rattle.enclosure.specs.Interval.{spill_of, greatest_below, rise_from, interval_of, all_of, IsDone, EnclosesAll};
+ghost use Rattle.enclosure.specs.Fractions.{IsGreatest};
+ghost use Rattle.enclosure.specs.Interval.{spill_of, interval_of, all_of, IsDone, EnclosesAll};
 
 use crate::fraction::Fraction;
+use crate::rises::{greatest_at, greatest_everywhere};
 use flux_ledger::Ledger;
 use flux_system::System;
 use std::alloc::{AllocError, Global};
@@ -29,34 +30,19 @@ pub fn spill(system: &System, ledger: &Ledger) -> u64
     unshot.div_ceil(u128::from(SCALE)) as u64
 }
 
-// The greatest fraction of what is kept at a patch that patch j gets of it.
-fn greatest_passed(system: &System, j: usize) -> Fraction
-    requires { j < patches system.now }
-    ensures whole { 0 < result.whole }
-    ensures greatest { (spill : ℕ) → div_ceil (result.parts * spill) result.whole ≡ greatest_below (patches system.now) (rise_from system.now spill j) }
-    ensures system { IsSystem system.now }
-{
-    let mut greatest = Fraction { parts: 0, whole: 1 };
-    for i in 0..system.len() {
-        greatest = greatest.greater(Fraction {
-            parts: system.coef(i, j),
-            whole: system.keep(i),
-        });
-    }
-    greatest
-}
-
 // The interval of patch j, where so much spills in all.
-fn ends(system: &System, ledger: &Ledger, spilled: u64, j: usize) -> (u64, u64)
+fn ends(system: &System, ledger: &Ledger, spilled: u64, greatest: Fraction, j: usize) -> (u64, u64)
     requires done { IsDone system.now ledger.now }
     requires spilled { spilled ≡ spill_of system.now ledger.now }
+    requires greatest { IsGreatest system.now (patches system.now) j greatest }
     requires patch { j < patches system.now }
     ensures value { result ≡ interval_of system.now ledger.now j }
     ensures order { result.0 ≤ result.1 }
     ensures bound { result.1 ≤ 4 * 10 ^ 17 + 10 ^ 13 }
     ensures system { IsSystem system.now }
 {
-    let rise = greatest_passed(system, j).of(spilled) as u64;
+    prove!(j < system.len());
+    let rise = greatest.of(spilled) as u64;
     let low = ledger.taken.get(j) + ledger.residual.get(j);
     let fraction = ledger.err.get(j).div_ceil(SCALE);
     (low, low + fraction + rise)
@@ -72,7 +58,8 @@ pub fn interval(system: &System, ledger: &Ledger, j: usize) -> (u64, u64)
     ensures bound { result.1 ≤ 4 * 10 ^ 17 + 10 ^ 13 }
     ensures encloses { Encloses system.now (slice_index ledger.now.direct) j result.0 result.1 }
 {
-    ends(system, ledger, spill(system, ledger), j)
+    let spilled = spill(system, ledger);
+    ends(system, ledger, spilled, greatest_at(system, j), j)
 }
 
 /// The intervals of all patches, as [`interval`] gives each. Fails only if memory runs out.
@@ -84,9 +71,10 @@ pub fn all(alloc: Global, system: &System, ledger: &Ledger) -> Result<Vec<(u64, 
     ensures encloses { IfOk result (λ _. EnclosesAll system.now ledger.now) }
 {
     let spilled = spill(system, ledger);
+    let greatest = greatest_everywhere(alloc, system)?;
     let mut intervals = Vec::with_capacity(alloc, system.len())?;
     for j in 0..system.len() {
-        intervals.push(ends(system, ledger, spilled, j))?;
+        intervals.push(ends(system, ledger, spilled, greatest[j], j))?;
     }
     Ok(intervals)
 }

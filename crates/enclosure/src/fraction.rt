@@ -1,6 +1,5 @@
 // Fractions, which are compared with no division.
-ghost use Rattle.std.specs.Prelude.{◌≡◌, ℕ, ◌*◌, ◌<◌, max};
-ghost use Rattle.std.specs.Int.{div_ceil};
+ghost use Rattle.std.specs.Prelude.{◌≡◌, ℕ, ◌<◌, max};
 
 // So many parts of a whole.
 #[derive(Clone, Copy)]
@@ -10,12 +9,15 @@ pub struct Fraction {
 }
 
 impl Fraction {
+    ghost use Rattle.enclosure.specs.Fractions.{part_of};
+
     // The greater of two fractions: it takes no less of any amount than the other, also where that is rounded up.
+    #[inline]
     pub fn greater(self, other: Fraction) -> Fraction
         requires one { 0 < self.whole }
         requires two { 0 < other.whole }
         ensures whole { 0 < result.whole }
-        ensures greatest { (amount : ℕ) → div_ceil (result.parts * amount) result.whole ≡ max (div_ceil (self.parts * amount) self.whole) (div_ceil (other.parts * amount) other.whole) }
+        ensures greatest { (amount : ℕ) → part_of result amount ≡ max (part_of self amount) (part_of other amount) }
     {
         let left = u128::from(self.parts) * u128::from(other.whole);
         let right = u128::from(other.parts) * u128::from(self.whole);
@@ -25,7 +27,7 @@ impl Fraction {
     // So much of an amount, rounded up.
     pub fn of(self, amount: u64) -> u128
         requires { 0 < self.whole }
-        ensures { result ≡ div_ceil (self.parts * amount) self.whole }
+        ensures { result ≡ part_of self amount }
     {
         (u128::from(self.parts) * u128::from(amount)).div_ceil(u128::from(self.whole))
     }

@@ -7,5 +7,6 @@
 
 mod ends;
 mod fraction;
+mod rises;
 
 pub use ends::{all, interval, spill};

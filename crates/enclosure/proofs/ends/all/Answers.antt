@@ -1,7 +1,8 @@
-use Rattle.std.proofs.Common.{◌≡◌, ℕ, ◌++◌, [], ◌∷◌, map, ap, sym, ◌∙◌, arith}
+use Rattle.std.proofs.Common.{◌≡◌, ℕ, List, ◌++◌, [], ◌∷◌, map, ap, sym, ◌∙◌, arith}
 use Rattle.std.specs.List.{range_with_len}
 use Rattle.std.proofs.lemmas.List.FromFn.{map-range_with_len_more}
-use Rattle.flux_system.specs.System.{patches}
+use Rattle.flux_system.specs.System.{FluxSystem, patches}
+use Rattle.flux_ledger.specs.declared.ledger.Ledger.{Ledger}
 use Rattle.enclosure.specs.Interval.{interval_of, all_of}
 use Rattle.enclosure.proofs.Bounds.{all_ordered, all_bounded}
 use Rattle.enclosure.proofs.Enclosing.{encloses_all}
@@ -14,16 +15,17 @@ loop-j-preserved c =
     ∙ sym (map-range_with_len_more (interval_of c.args.system.now c.args.ledger.now) 0 c.loop-j.j c.loop-j.j (omega arith)))
 
 -- all intervals, at the end
-listed : (c : goal.After-loop-j) → c.loop-j.intervals.items ≡ all_of c.args.system.now c.args.ledger.now
-listed c =
-    let end : c.loop-j.j ≡ patches c.args.system.now = omega arith in
-    c.loop-j.invariant ∙ ap (λ (n : ℕ). map (interval_of c.args.system.now c.args.ledger.now) (range_with_len 0 n)) end
+listed : (s : FluxSystem) (l : Ledger) (n : ℕ) (ends : List (ℕ × ℕ)) → n ≡ patches s → ends ≡ map (interval_of s l) (range_with_len 0 n) → ends ≡ all_of s l
+listed s l n ends end so_far = so_far ∙ ap (λ (m : ℕ). map (interval_of s l) (range_with_len 0 m)) end
+
+pub returns-clause-value : goal.returns-clause-value
+returns-clause-value c = listed c.args.system.now c.args.ledger.now c.loop-j.j _ (omega arith) c.loop-j.invariant
 
 pub returns-clause-order : goal.returns-clause-order
-returns-clause-order c = all_ordered c.args.system.now c.len.ensures.system c.args.ledger.now c.requires _ (listed c)
+returns-clause-order c = all_ordered c.args.system.now c.len.ensures.system c.args.ledger.now c.requires _ (listed c.args.system.now c.args.ledger.now c.loop-j.j _ (omega arith) c.loop-j.invariant)
 
 pub returns-clause-bound : goal.returns-clause-bound
-returns-clause-bound c = all_bounded c.args.system.now c.len.ensures.system c.args.ledger.now c.requires _ (listed c)
+returns-clause-bound c = all_bounded c.args.system.now c.len.ensures.system c.args.ledger.now c.requires _ (listed c.args.system.now c.args.ledger.now c.loop-j.j _ (omega arith) c.loop-j.invariant)
 
 pub returns-clause-encloses : goal.returns-clause-encloses
 returns-clause-encloses c = encloses_all c.args.system.now c.len.ensures.system c.args.ledger.now c.requires
