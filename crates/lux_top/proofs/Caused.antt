@@ -1,5 +1,5 @@
 -- What follows of a call that follows a plan.
-use Rattle.std.proofs.Common.{◌≡◌, ◌⊎◌, ◌≤◌, ℕ, List, length, inl, inr, refl, sym, ap, subst, ◌∙◌, Result, Ok, Err, Option, Some, None, IfSome, IsSomeAnd, MatchBool, Bool, false, nat_le, ◌<◌, arith}
+use Rattle.std.proofs.Common.{◌≡◌, ◌≤◌, ℕ, List, length, inl, inr, refl, sym, ap, subst, ◌∙◌, Result, Ok, Err, Option, Some, None, IfSome, IsSomeAnd, MatchBool, Bool, false, nat_le, ◌<◌, arith}
 use Rattle.std.proofs.lemmas.Bool.{le-leb}
 use Rattle.std.proofs.lemmas.Grind.{common_steps}
 use Rattle.lux_io.specs.Shelves.{ShelfState, Rose, IsFile}
@@ -10,7 +10,7 @@ use Rattle.lux_top.specs.declared.answers.Answer.TheVariants.{Read, TooLong, Mem
 use Rattle.lux_top.specs.declared.answers.Outcome.{Outcome}
 use Rattle.lux_top.specs.Answers.{Cause, Nothing, Contents, FailedRead, OverlongRead, FailedWrite, cause_of}
 use Rattle.lux_top.specs.Ready.{Writing}
-use Rattle.lux_top.specs.Plans.{Plan, Give, Refuse, ReadFile, Choose, Unread, OnRefusal, Decides, Takes, accept, and_then}
+use Rattle.lux_top.specs.Plans.{Plan, Give, Refuse, ReadFile, Choose, Unread, Decides, Takes, accept, and_then}
 use Rattle.lux_top.specs.Runs.{World, Refused, Concludes, Concluded, Runs, IsBlamedOn, Comes, Leads, answer_of, IsComplete, Follows}
 
 -- each refusal that the plan itself gives needs no cause but the words and the bytes, and each value is as P says

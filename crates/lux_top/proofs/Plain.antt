@@ -4,7 +4,7 @@ use Rattle.lux_top.specs.declared.answers.Answer.TheVariants as answer
 use Rattle.lux_top.specs.declared.commands.Command.{Command}
 use Rattle.lux_top.specs.declared.commands.Command.TheVariants.{Solve}
 use Rattle.system_file.specs.SystemText.{system_of}
-use Rattle.lux_top.specs.Solving.{Problem, system_file, limited, within_limits, limited_file, solved, solving}
+use Rattle.lux_top.specs.Solving.{system_file, limited, within_limits, limited_file, solved, solving}
 use Rattle.lux_top.specs.Words.{plan_of}
 use Rattle.lux_top.proofs.Caused.{IsPlain, IsAny, IsDone, plain_accept, plain_then}
 

@@ -1,11 +1,10 @@
 -- The row of each answer, from what was ready or refused, and from what was then put to the sinks.
 use Rattle.std.proofs.Common.{◌≡◌, ℕ, List, inl, inr, refl, sym, ap, subst, ◌∙◌, Result, Ok, Err, Option, Some, None, IfOk, IfErr}
-use Rattle.flux_ledger.specs.declared.ledger.Ledger.{Ledger}
 use Rattle.flux_system.specs.System.{FluxSystem}
 use Rattle.lux_io.specs.Shelves.{ShelfState}
 use Rattle.lux_io.specs.Sinks.{Wrote, WroteSome}
 use Rattle.lux_top.specs.declared.answers.Answer.{Answer}
-use Rattle.lux_top.specs.declared.answers.Answer.TheVariants.{Done, Usage, Read, TooLong, System, Limits, Write, Memory}
+use Rattle.lux_top.specs.declared.answers.Answer.TheVariants.{Done, Usage, Write, Memory}
 use Rattle.lux_top.specs.declared.answers.Worst.TheVariants.{AllPass}
 use Rattle.lux_top.specs.declared.answers.Outcome.{Outcome}
 use Rattle.lux_top.specs.declared.commands.Command.{Command}

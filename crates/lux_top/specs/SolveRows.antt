@@ -1,5 +1,5 @@
 -- When each answer of `solve` comes, in plain words: one row for each answer.
-use Rattle.std.specs.Prelude.{◌≡◌, ℕ, List, Result, Ok, Err, Option, Some, None}
+use Rattle.std.specs.Prelude.{◌≡◌, ℕ, List, Ok, Err, Option, Some, None}
 use Rattle.duties.specs.Duties.{first}
 use Rattle.enclosure.specs.Interval.{EnclosesAll}
 use Rattle.flux_system.specs.System.{FluxSystem}

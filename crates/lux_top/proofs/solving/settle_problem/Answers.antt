@@ -1,4 +1,4 @@
-use Rattle.std.proofs.Common.{◌≡◌, ◌≤◌, ℕ, List, sum, ap, ◌∙◌, arith}
+use Rattle.std.proofs.Common.{ℕ, List, sum, ap, ◌∙◌, arith}
 use Rattle.flux_system.specs.System.{FluxSystem}
 use Rattle.lux_top.proofs.Limited.{few_nanolumens}
 use Rattle.lux_top.proofs.solving.settle_problem.Goals as goal
