@@ -13,7 +13,7 @@ use Rattle.shot_core.specs.Settling.{settled, untouched}
 use Rattle.system_file.specs.SystemText.{system_of}
 use Rattle.lux_top.specs.declared.solving.TheConstants.{SYSTEM_LIMIT}
 use Rattle.lux_top.specs.declared.answers.Answer.{Answer}
-use Rattle.lux_top.specs.declared.answers.Answer.TheVariants.{Done, Usage, Read, TooLong, System, Limits, Write, Memory}
+use Rattle.lux_top.specs.declared.answers.Answer.TheVariants.{Done, Read, TooLong, System, Limits, Write, Memory}
 use Rattle.lux_top.specs.declared.answers.Worst.{Worst}
 use Rattle.lux_top.specs.declared.answers.Worst.TheVariants.{AllPass}
 use Rattle.lux_top.specs.Notes.{Noted}
@@ -72,9 +72,7 @@ SolveRefusal name before after (TooLong file) = (file ≡ name) × Rose before.o
 SolveRefusal name before after (System fault) = (text : List ℕ) × IsFile before name SYSTEM_LIMIT text × (system_of text ≡ Err fault)
 SolveRefusal name before after (Limits fault) = (problem : FluxSystem × List ℕ) × IsFileProblem before name problem × (first (limit_duties problem.0 problem.1) ≡ Some fault)
 SolveRefusal name before after Memory = Unit {0}
-SolveRefusal name before after Usage = ⊥
-SolveRefusal name before after Write = ⊥
-SolveRefusal name before after (Done ledger worst) = ⊥
+SolveRefusal name before after _ = ⊥
 
 -- the row of each answer of `solve`
 abbrev pub SolveRow : List ℕ → World → World → Answer → Type 0
