@@ -3,4 +3,5 @@ pub mod Taking
 pub mod Caused
 pub mod Plain
 pub mod Rows
+pub mod Prints
 pub mod Limited

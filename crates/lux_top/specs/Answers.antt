@@ -1,7 +1,7 @@
 -- The exit status and the cause of each answer. A new answer adds a line to each table.
 use Rattle.std.specs.Prelude.{ℕ, List}
 use Rattle.lux_top.specs.declared.answers.Answer.{Answer}
-use Rattle.lux_top.specs.declared.answers.Answer.TheVariants.{Done, Usage, Read, TooLong, System, Limits, Write, Memory}
+use Rattle.lux_top.specs.declared.answers.Answer.TheVariants.{Done, Usage, Read, TooLong, System, Photometry, Limits, Write, Memory}
 use Rattle.lux_top.specs.declared.answers.Worst.{Worst}
 use Rattle.lux_top.specs.declared.answers.Worst.TheVariants.{AllPass, SomeFail, SomeUndecided}
 use Rattle.lux_top.specs.declared.answers.Outcome.{Outcome}
@@ -15,6 +15,7 @@ abbrev pub status_of : Answer → ℕ
 status_of (Done ledger worst) = status_of_worst worst
 status_of Usage = 3
 status_of (System fault) = 4
+status_of (Photometry name fault) = 5
 status_of (Read name) = 6
 status_of (TooLong name) = 6
 status_of Write = 7
@@ -38,6 +39,7 @@ abbrev pub cause_of : Answer → Cause
 cause_of (Done ledger worst) = Nothing
 cause_of Usage = Contents
 cause_of (System fault) = Contents
+cause_of (Photometry name fault) = Contents
 cause_of (Read name) = FailedRead name
 cause_of (TooLong name) = OverlongRead name
 cause_of Write = FailedWrite

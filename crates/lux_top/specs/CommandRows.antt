@@ -3,7 +3,8 @@ use Rattle.std.specs.Prelude.{Option, Some, None}
 use Rattle.lux_top.specs.declared.answers.Answer.{Answer}
 use Rattle.lux_top.specs.declared.answers.Answer.TheVariants.{Usage, Memory}
 use Rattle.lux_top.specs.declared.commands.Command.{Command}
-use Rattle.lux_top.specs.declared.commands.Command.TheVariants.{Solve}
+use Rattle.lux_top.specs.declared.commands.Command.TheVariants.{Solve, Photo}
+use Rattle.lux_top.specs.PhotoRows.{PhotoRow}
 use Rattle.lux_top.specs.Runs.{World, Refused}
 use Rattle.lux_top.specs.SolveRows.{SolveRow}
 
@@ -17,3 +18,4 @@ UsageRow before after _ = ⊥
 abbrev pub CommandRow : Option Command → World → World → Answer → Type 0
 CommandRow None before after answer = UsageRow before after answer
 CommandRow (Some (Solve name)) before after answer = SolveRow name before after answer
+CommandRow (Some (Photo name)) before after answer = PhotoRow name before after answer

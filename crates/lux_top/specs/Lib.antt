@@ -2,6 +2,9 @@ pub mod Answers
 pub mod CommandRows
 pub mod IntervalLines
 pub mod Notes
+pub mod Photographing
+pub mod PhotometryText
+pub mod PhotoRows
 pub mod Plans
 pub mod Ready
 pub mod Runs

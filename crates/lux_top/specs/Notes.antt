@@ -3,11 +3,17 @@ use Rattle.std.specs.Prelude.{◌⊎◌, ℕ, List, [], ◌++◌, codes}
 use Rattle.std.specs.Fmt.{decimal}
 use Rattle.flux_system.specs.declared.faults.LimitFault.{LimitFault}
 use Rattle.flux_system.specs.declared.faults.LimitFault.TheVariants.{FluxTooLarge, TooManyTakes}
+use Rattle.lm63_reader.specs.declared.faults.LmFault.{LmFault}
+use Rattle.lm63_reader.specs.declared.faults.LmFault.TheVariants as lm
 use Rattle.lux_io.specs.Sinks.{SinkState, Wrote, WroteSome}
+use Rattle.lux_num.specs.declared.decimal.NumFault.{NumFault}
+use Rattle.lux_num.specs.declared.decimal.NumFault.TheVariants as number
 use Rattle.system_file.specs.declared.faults.SysFault.{SysFault}
 use Rattle.system_file.specs.declared.faults.SysFault.TheVariants as system
 use Rattle.lux_top.specs.declared.answers.Answer.{Answer}
-use Rattle.lux_top.specs.declared.answers.Answer.TheVariants.{Done, Usage, Read, TooLong, System, Limits, Write, Memory}
+use Rattle.lux_top.specs.declared.answers.PhotoFault.{PhotoFault}
+use Rattle.lux_top.specs.declared.answers.PhotoFault.TheVariants.{Lm}
+use Rattle.lux_top.specs.declared.answers.Answer.TheVariants.{Done, Usage, Read, TooLong, System, Photometry, Limits, Write, Memory}
 
 -- a fault's name in lower case, and its numbers
 abbrev pub text_of_system : SysFault → List ℕ
@@ -21,6 +27,33 @@ text_of_system (system.Reflectance patch) = codes "reflectance " ++ decimal patc
 text_of_system (system.RowTotal patch) = codes "row total " ++ decimal patch
 text_of_system system.Memory = codes "memory"
 
+abbrev pub text_of_number : NumFault → List ℕ
+text_of_number (number.BadByte at) = codes "bad byte " ++ decimal at
+text_of_number number.Empty = codes "empty"
+text_of_number number.TooManyDigits = codes "too many digits"
+text_of_number number.Exponent = codes "exponent"
+
+abbrev pub text_of_lm : LmFault → List ℕ
+text_of_lm lm.Header = codes "header"
+text_of_lm lm.Tilt = codes "tilt"
+text_of_lm lm.TiltFile = codes "tilt file"
+text_of_lm (lm.Number line fault) = codes "number " ++ decimal line ++ codes " " ++ text_of_number fault
+text_of_lm (lm.Short found) = codes "short " ++ decimal found
+text_of_lm lm.PhotometricType = codes "photometric type"
+text_of_lm lm.Units = codes "units"
+text_of_lm (lm.Count field) = codes "count " ++ decimal field
+text_of_lm (lm.Factor field) = codes "factor " ++ decimal field
+text_of_lm (lm.Angles list at) = codes "angles " ++ decimal list ++ codes " " ++ decimal at
+text_of_lm lm.HorizontalSpan = codes "horizontal span"
+text_of_lm (lm.NegativeIntensity at) = codes "negative intensity " ++ decimal at
+text_of_lm (lm.TooBright at) = codes "too bright " ++ decimal at
+text_of_lm (lm.Trailing line) = codes "trailing " ++ decimal line
+text_of_lm lm.Memory = codes "memory"
+
+-- the fault of a photometry file, in the words of its format
+abbrev pub text_of_photometry : PhotoFault → List ℕ
+text_of_photometry (Lm fault) = text_of_lm fault
+
 abbrev pub text_of_limit : LimitFault → List ℕ
 text_of_limit (FluxTooLarge sum) = codes "flux too large " ++ decimal sum
 text_of_limit (TooManyTakes bound) = codes "too many takes " ++ decimal bound
@@ -31,6 +64,7 @@ text_of Usage = codes "usage: lux solve FILE | photo FILE | run PROJECT [--shoot
 text_of (Read name) = codes "cannot read " ++ name
 text_of (TooLong name) = codes "file too long: " ++ name
 text_of (System fault) = codes "system: " ++ text_of_system fault
+text_of (Photometry name fault) = codes "photometry " ++ name ++ codes ": " ++ text_of_photometry fault
 text_of (Limits fault) = codes "limit: " ++ text_of_limit fault
 text_of Write = codes "cannot write"
 text_of Memory = codes "out of memory"

@@ -1,8 +1,10 @@
 // What a call may answer.
 use flux_ledger::Ledger;
 use flux_system::LimitFault;
+use lm63_reader::LmFault;
 use lux_io::Name;
 use system_file::SysFault;
+use thiserror::Error;
 
 /// What the verdicts of a run come to. Without verdicts it is `AllPass`.
 #[derive(Clone, Copy, Debug, PartialEq, Eq)]
@@ -10,6 +12,14 @@ pub enum Worst {
     AllPass,
     SomeFail,
     SomeUndecided,
+}
+
+/// Why a file is no photometry: the fault of the format that it is in.
+#[derive(Clone, Copy, Debug, PartialEq, Eq, Error)]
+pub enum PhotoFault {
+    /// It begins as no LM-63 file, or has another fault of one.
+    #[error("{0}")]
+    Lm(LmFault),
 }
 
 /// How a command ended. Each answer has its status (0 to 10) and, but for `Done`, one line of note.
@@ -32,6 +42,8 @@ pub enum Answer {
     },
     /// The file is no system text, for this reason.
     System(SysFault),
+    /// This file is no photometry, for this reason.
+    Photometry { name: Name, fault: PhotoFault },
     /// A number of the flux system or its direct flux passes a limit.
     Limits(LimitFault),
     /// The output took a part of the bytes at most.

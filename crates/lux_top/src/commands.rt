@@ -10,6 +10,8 @@ use std::alloc::{AllocError, Global};
 pub enum Command {
     /// `solve FILE`
     Solve(Name),
+    /// `photo FILE`
+    Photo(Name),
 }
 
 // The word at a place, or an empty one.
@@ -47,8 +49,11 @@ fn file_after(alloc: Global, words: &[String], keyword: &str) -> Result<Option<N
 pub fn read_words(alloc: Global, words: &[String]) -> Result<Option<Command>, AllocError>
     ensures { IfOk result (λ command. command ≡ command_of (map string_bytes words.now)) }
 {
-    match file_after(alloc, words, "solve")? {
-        Some(name) => Ok(Some(Command::Solve(name))),
-        None => Ok(None),
+    if let Some(name) = file_after(alloc, words, "solve")? {
+        return Ok(Some(Command::Solve(name)));
     }
+    if let Some(name) = file_after(alloc, words, "photo")? {
+        return Ok(Some(Command::Photo(name)));
+    }
+    Ok(None)
 }

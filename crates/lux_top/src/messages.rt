@@ -1,10 +1,12 @@
 // The note and the status of each answer.
 ghost use Rattle.std.specs.Prelude.{◌≡◌, Some, IfOk, string_bytes};
 ghost use Rattle.lux_top.specs.Answers.{status_of, outcome_of};
-ghost use Rattle.lux_top.specs.Notes.{note, text_of, text_of_system, text_of_limit};
+ghost use Rattle.lux_top.specs.Notes.{note, text_of, text_of_system, text_of_number, text_of_lm, text_of_photometry, text_of_limit};
 
-use crate::{Answer, Outcome, Worst};
+use crate::{Answer, Outcome, PhotoFault, Worst};
 use flux_system::LimitFault;
+use lm63_reader::LmFault;
+use lux_num::NumFault;
 use std::alloc::{AllocError, Global};
 use std::fmt;
 use system_file::SysFault;
@@ -28,6 +30,68 @@ impl fmt::Display for SystemWords {
             SysFault::RowTotal { patch } => write!(f, "row total {patch}"),
             SysFault::Memory => write!(f, "memory"),
         }
+    }
+}
+
+// Why a word is no number, in the words of a note.
+#[derive(Clone, Copy)]
+struct NumberWords(NumFault);
+
+impl fmt::Display for NumberWords {
+    ghost output = { λ words. Some (text_of_number words.0) };
+
+    fn fmt<W: fmt::Write>(&self, f: &mut fmt::Formatter<W>) -> fmt::Result {
+        match self.0 {
+            NumFault::BadByte { at } => write!(f, "bad byte {at}"),
+            NumFault::Empty => write!(f, "empty"),
+            NumFault::TooManyDigits => write!(f, "too many digits"),
+            NumFault::Exponent => write!(f, "exponent"),
+        }
+    }
+}
+
+// A refusal of an LM-63 file in the words of a note.
+#[derive(Clone, Copy)]
+struct LmWords(LmFault);
+
+impl fmt::Display for LmWords {
+    ghost output = { λ words. Some (text_of_lm words.0) };
+
+    fn fmt<W: fmt::Write>(&self, f: &mut fmt::Formatter<W>) -> fmt::Result {
+        match self.0 {
+            LmFault::Header => write!(f, "header"),
+            LmFault::Tilt => write!(f, "tilt"),
+            LmFault::TiltFile => write!(f, "tilt file"),
+            LmFault::Number { line, fault } => {
+                let fault = NumberWords(fault);
+                write!(f, "number {line} {fault}")
+            }
+            LmFault::Short { found } => write!(f, "short {found}"),
+            LmFault::PhotometricType => write!(f, "photometric type"),
+            LmFault::Units => write!(f, "units"),
+            LmFault::Count { field } => write!(f, "count {field}"),
+            LmFault::Factor { field } => write!(f, "factor {field}"),
+            LmFault::Angles { list, at } => write!(f, "angles {list} {at}"),
+            LmFault::HorizontalSpan => write!(f, "horizontal span"),
+            LmFault::NegativeIntensity { at } => write!(f, "negative intensity {at}"),
+            LmFault::TooBright { at } => write!(f, "too bright {at}"),
+            LmFault::Trailing { line } => write!(f, "trailing {line}"),
+            LmFault::Memory => write!(f, "memory"),
+        }
+    }
+}
+
+// A refusal of a photometry file in the words of a note.
+#[derive(Clone, Copy)]
+struct PhotometryWords(PhotoFault);
+
+impl fmt::Display for PhotometryWords {
+    ghost output = { λ words. Some (text_of_photometry words.0) };
+
+    fn fmt<W: fmt::Write>(&self, f: &mut fmt::Formatter<W>) -> fmt::Result {
+        let PhotoFault::Lm(fault) = self.0;
+        let words = LmWords(fault);
+        write!(f, "{words}")
     }
 }
 
@@ -68,6 +132,11 @@ impl fmt::Display for Answer {
                 let words = SystemWords(*fault);
                 write!(f, "system: {words}")
             }
+            Answer::Photometry { name, fault } => {
+                let name = name.as_str();
+                let words = PhotometryWords(*fault);
+                write!(f, "photometry {name}: {words}")
+            }
             Answer::Limits(fault) => {
                 let words = LimitWords(*fault);
                 write!(f, "limit: {words}")
@@ -96,6 +165,7 @@ fn status_of_answer(answer: &Answer) -> u8
         },
         Answer::Usage => 3,
         Answer::System(_) => 4,
+        Answer::Photometry { .. } => 5,
         Answer::Read { .. } | Answer::TooLong { .. } => 6,
         Answer::Write => 7,
         Answer::Memory => 8,

@@ -6,7 +6,8 @@ use crate::Answer;
 use lux_io::{Name, Shelf, ShelfFault};
 use std::alloc::{AllocError, Global};
 
-fn copy_of(alloc: Global, name: &Name) -> Result<Name, AllocError>
+/// A name once more.
+pub(crate) fn copy_of(alloc: Global, name: &Name) -> Result<Name, AllocError>
     ensures { IfOk result (λ copy. copy ≡ name.now) }
 {
     match Name::new(alloc, name.as_str()) {

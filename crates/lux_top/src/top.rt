@@ -6,6 +6,7 @@ ghost use Rattle.lux_top.specs.Words.{command_of, plan_of};
 
 use crate::commands::{Command, read_words};
 use crate::endings::conclude;
+use crate::photographing::photo;
 use crate::solving::solve;
 use crate::{Answer, Outcome};
 use lux_io::{Gate, Shelf, Sink};
@@ -62,5 +63,6 @@ fn obey<S: Shelf, K: Sink, N: Sink>(
 {
     match command {
         Command::Solve(name) => solve(alloc, &name, shelf, out, notes),
+        Command::Photo(name) => photo(alloc, &name, shelf, out, notes),
     }
 }
