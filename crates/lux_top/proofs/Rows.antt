@@ -8,7 +8,7 @@ use Rattle.lux_top.specs.declared.answers.Answer.TheVariants.{Done, Usage, Write
 use Rattle.lux_top.specs.declared.answers.Worst.TheVariants.{AllPass}
 use Rattle.lux_top.specs.declared.answers.Outcome.{Outcome}
 use Rattle.lux_top.specs.declared.commands.Command.{Command}
-use Rattle.lux_top.specs.declared.commands.Command.TheVariants.{Solve}
+use Rattle.lux_top.specs.declared.commands.Command.TheVariants.{Solve, Photo}
 use Rattle.lux_top.specs.Answers.{outcome_of}
 use Rattle.lux_top.specs.CommandRows.{CommandRow}
 use Rattle.lux_top.specs.Ready.{Writing}
@@ -64,6 +64,7 @@ row_of_words command before after outcome answer is row = subst (λ (o : Outcome
 refused_memory : (command : Option Command) (before after : World) → Refused Memory before after → CommandRow command before after Memory
 refused_memory None before after refused = refused
 refused_memory (Some (Solve name)) before after refused = (refused, tt)
+refused_memory (Some (Photo name)) before after refused = (refused, tt)
 
 -- want of memory before the words were read
 pub memory_row : (command : Option Command) (before after : World) (outcome : Outcome) → Concluded (Err Memory) before after outcome → CommandRow command before after outcome.answer

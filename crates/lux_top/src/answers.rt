@@ -43,7 +43,10 @@ pub enum Answer {
     /// The file is no system text, for this reason.
     System(SysFault),
     /// This file is no photometry, for this reason.
-    Photometry { name: Name, fault: PhotoFault },
+    Photometry {
+        name: Name,
+        fault: PhotoFault,
+    },
     /// A number of the flux system or its direct flux passes a limit.
     Limits(LimitFault),
     /// The output took a part of the bytes at most.

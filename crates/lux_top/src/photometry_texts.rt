@@ -47,17 +47,24 @@ fn push_numbers<N: Integer>(text: &mut Vec<u8>, numbers: &[N]) -> Result<(), All
     Ok(())
 }
 
+// Appends a text, and then a word.
+fn push_word(text: &mut Vec<u8>, before: &[u8], word: &str) -> Result<(), AllocError>
+    ensures { OnOk result (text.new.items ≡ text.old.items ++ before.now ++ word.now) }
+{
+    text.extend_from_slice(before)?;
+    text.extend_from_slice(word.as_bytes())
+}
+
 // Appends the lines before those of the planes.
 fn push_head(text: &mut Vec<u8>, photometry: &Photometry) -> Result<(), AllocError>
     ensures { OnOk result (text.new.items ≡ text.old.items ++ head_text photometry.now) }
 {
-    text.extend_from_slice(b"photometry ")?;
-    text.extend_from_slice(kind_word(photometry.kind).as_bytes())?;
-    text.extend_from_slice(b"\nsymmetry ")?;
-    text.extend_from_slice(symmetry_word(photometry.sym).as_bytes())?;
+    push_word(text, b"photometry ", kind_word(photometry.kind))?;
+    push_word(text, b"\nsymmetry ", symmetry_word(photometry.sym))?;
     text.extend_from_slice(b"\ngammas")?;
     push_numbers(text, photometry.web.gammas())?;
-    text.extend_from_slice(b"\n")
+    text.extend_from_slice(b"\n")?;
+    Ok(())
 }
 
 // Appends the line of a plane.
@@ -73,7 +80,10 @@ fn push_plane(text: &mut Vec<u8>, web: &Web, plane: usize) -> Result<(), AllocEr
 
 /// The text of a photometry: its format, its symmetry, the gammas in millidegrees, and for each plane of the web its
 /// angle and its values in microcandela.
-pub(crate) fn photometry_bytes(alloc: Global, photometry: &Photometry) -> Result<Vec<u8>, AllocError>
+pub(crate) fn photometry_bytes(
+    alloc: Global,
+    photometry: &Photometry,
+) -> Result<Vec<u8>, AllocError>
     ensures { IfOk result (λ text. text.items ≡ photometry_text photometry.now) }
 {
     let mut text = Vec::new(alloc);
