@@ -11,20 +11,19 @@ use Rattle.lux_io.specs.Sinks.{Wrote, WroteSome}
 use Rattle.lux_io.specs.declared.blames.Count.TheVariants.{Faults, Overlong}
 use Rattle.shot_core.specs.Settling.{settled, untouched}
 use Rattle.system_file.specs.SystemText.{system_of}
-use Rattle.lux_top.specs.declared.solving.TheConstants.{SYSTEM_LIMIT}
 use Rattle.lux_top.specs.declared.answers.Answer.{Answer}
 use Rattle.lux_top.specs.declared.answers.Answer.TheVariants.{Done, Read, TooLong, System, Limits, Write, Memory}
 use Rattle.lux_top.specs.declared.answers.Worst.{Worst}
 use Rattle.lux_top.specs.declared.answers.Worst.TheVariants.{AllPass}
 use Rattle.lux_top.specs.Notes.{Noted}
 use Rattle.lux_top.specs.Ready.{Writing}
-use Rattle.lux_top.specs.Solving.{ledger_with_intervals}
+use Rattle.lux_top.specs.Solving.{ledger_with_intervals, most_system_bytes}
 use Rattle.lux_top.specs.Runs.{World, Refused}
 
 -- the file has a text that says this flux system and this direct flux
 pub record IsFileProblem (shelf : ShelfState) (name : List ℕ) (problem : FluxSystem × List ℕ) : Type 0 where
   pub text : List ℕ
-  pub is_file : IsFile shelf name SYSTEM_LIMIT text
+  pub is_file : IsFile shelf name most_system_bytes text
   pub accepted : system_of text ≡ Ok problem
 
 -- the problem is within the limits
@@ -67,9 +66,9 @@ pub record IsCutOff (name : List ℕ) (before after : World) : Type 0 where
 -- why a file is refused: this read failed; or found too many bytes; the file has no system text, with its first fault;
 -- or what it says is past a limit, with the first. Want of memory needs no reason, and no other answer refuses.
 abbrev pub SolveRefusal : List ℕ → ShelfState → ShelfState → Answer → Type 0
-SolveRefusal name before after (Read file) = (file ≡ name) × Rose before.faults after.faults × (after.blame ≡ Some (record { count = Faults; name = name; limit = SYSTEM_LIMIT }))
-SolveRefusal name before after (TooLong file) = (file ≡ name) × Rose before.overlong after.overlong × (after.blame ≡ Some (record { count = Overlong; name = name; limit = SYSTEM_LIMIT })) × IsOverlong before name SYSTEM_LIMIT
-SolveRefusal name before after (System fault) = (text : List ℕ) × IsFile before name SYSTEM_LIMIT text × (system_of text ≡ Err fault)
+SolveRefusal name before after (Read file) = (file ≡ name) × Rose before.faults after.faults × (after.blame ≡ Some (record { count = Faults; name = name; limit = most_system_bytes }))
+SolveRefusal name before after (TooLong file) = (file ≡ name) × Rose before.overlong after.overlong × (after.blame ≡ Some (record { count = Overlong; name = name; limit = most_system_bytes })) × IsOverlong before name most_system_bytes
+SolveRefusal name before after (System fault) = (text : List ℕ) × IsFile before name most_system_bytes text × (system_of text ≡ Err fault)
 SolveRefusal name before after (Limits fault) = (problem : FluxSystem × List ℕ) × IsFileProblem before name problem × (first (limit_duties problem.0 problem.1) ≡ Some fault)
 SolveRefusal name before after Memory = Unit {0}
 SolveRefusal name before after _ = ⊥

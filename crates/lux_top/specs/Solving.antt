@@ -9,7 +9,6 @@ use Rattle.flux_ledger.specs.declared.ledger.Ledger.{Ledger}
 use Rattle.flux_ledger.specs.LedgerText as ledger_text
 use Rattle.shot_core.specs.Settling.{settled, untouched}
 use Rattle.system_file.specs.SystemText.{system_of}
-use Rattle.lux_top.specs.declared.solving.TheConstants.{SYSTEM_LIMIT}
 use Rattle.lux_top.specs.declared.answers.Answer.TheVariants.{Done, System, Limits}
 use Rattle.lux_top.specs.declared.answers.Worst.TheVariants.{AllPass}
 use Rattle.lux_top.specs.IntervalLines.{interval_lines}
@@ -24,9 +23,13 @@ Problem = FluxSystem × List ℕ
 abbrev pub system_text : List ℕ → Plan Problem
 system_text text = accept (system_of text) System
 
+-- the most bytes of a system text: 16 MiB
+abbrev pub most_system_bytes : ℕ
+most_system_bytes = 16777216
+
 -- the problem of a file
 abbrev pub system_file : List ℕ → Plan Problem
-system_file name = and_then (file name SYSTEM_LIMIT) system_text
+system_file name = and_then (file name most_system_bytes) system_text
 
 -- the problem once more, where it is within the limits
 abbrev pub limited : Problem → Result Problem LimitFault

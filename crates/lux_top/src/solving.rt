@@ -24,7 +24,7 @@ use std::alloc::{AllocError, Global};
 use system_file::{SysFault, read_system};
 
 /// The most bytes of a system text.
-pub const SYSTEM_LIMIT: usize = 16_777_216;
+const SYSTEM_LIMIT: usize = 16_777_216;
 
 /// Reads the system text of that name, settles its flux from nothing taken, and writes the ledger's text
 /// with an interval for each patch, which encloses the exact solution.
