@@ -12,8 +12,8 @@ use Rattle.lux_top.specs.declared.answers.PhotoFault.{PhotoFault}
 use Rattle.lux_top.specs.declared.answers.PhotoFault.TheVariants.{Lm}
 use Rattle.lux_top.specs.declared.answers.Worst.{Worst}
 use Rattle.lux_top.specs.declared.answers.Worst.TheVariants.{AllPass}
-use Rattle.lux_top.specs.declared.photographing.TheConstants.{PHOTOMETRY_LIMIT}
 use Rattle.lux_top.specs.Notes.{Noted}
+use Rattle.lux_top.specs.Photographing.{most_photometry_bytes}
 use Rattle.lux_top.specs.PhotometryText.{photometry_text}
 use Rattle.lux_top.specs.Ready.{Writing}
 use Rattle.lux_top.specs.Runs.{World, Refused}
@@ -21,7 +21,7 @@ use Rattle.lux_top.specs.Runs.{World, Refused}
 -- the file has a text that says this photometry
 pub record IsPhotometryOf (shelf : ShelfState) (name : List ℕ) (photometry : Photometry) : Type 0 where
   pub text : List ℕ
-  pub is_file : IsFile shelf name PHOTOMETRY_LIMIT text
+  pub is_file : IsFile shelf name most_photometry_bytes text
   pub accepted : lm_of text ≡ Ok photometry
 
 -- the photometry of the file was written whole, and no note was put; there is no ledger
@@ -47,9 +47,9 @@ TextIsRefused text (Lm fault) = lm_of text ≡ Err fault
 -- why a file is refused: this read failed; or found too many bytes; or its text is no photometry, with its first fault.
 -- Want of memory needs no reason, and no other answer refuses.
 abbrev pub PhotoRefusal : List ℕ → ShelfState → ShelfState → Answer → Type 0
-PhotoRefusal name before after (answer.Read file) = (file ≡ name) × Rose before.faults after.faults × (after.blame ≡ Some (record { count = Faults; name = name; limit = PHOTOMETRY_LIMIT }))
-PhotoRefusal name before after (answer.TooLong file) = (file ≡ name) × Rose before.overlong after.overlong × (after.blame ≡ Some (record { count = Overlong; name = name; limit = PHOTOMETRY_LIMIT })) × IsOverlong before name PHOTOMETRY_LIMIT
-PhotoRefusal name before after (answer.Photometry file fault) = (file ≡ name) × ((text : List ℕ) × IsFile before name PHOTOMETRY_LIMIT text × TextIsRefused text fault)
+PhotoRefusal name before after (answer.Read file) = (file ≡ name) × Rose before.faults after.faults × (after.blame ≡ Some (record { count = Faults; name = name; limit = most_photometry_bytes }))
+PhotoRefusal name before after (answer.TooLong file) = (file ≡ name) × Rose before.overlong after.overlong × (after.blame ≡ Some (record { count = Overlong; name = name; limit = most_photometry_bytes })) × IsOverlong before name most_photometry_bytes
+PhotoRefusal name before after (answer.Photometry file fault) = (file ≡ name) × ((text : List ℕ) × IsFile before name most_photometry_bytes text × TextIsRefused text fault)
 PhotoRefusal name before after answer.Memory = Unit {0}
 PhotoRefusal name before after _ = ⊥
 

@@ -7,7 +7,6 @@ use Rattle.lux_top.specs.declared.answers.Answer.{Answer}
 use Rattle.lux_top.specs.declared.answers.Answer.TheVariants as answer
 use Rattle.lux_top.specs.declared.answers.PhotoFault.TheVariants.{Lm}
 use Rattle.lux_top.specs.declared.answers.Worst.TheVariants.{AllPass}
-use Rattle.lux_top.specs.declared.photographing.TheConstants.{PHOTOMETRY_LIMIT}
 use Rattle.lux_top.specs.PhotometryText.{photometry_text}
 use Rattle.lux_top.specs.Plans.{Plan, Give, file, accept, and_then}
 use Rattle.lux_top.specs.Ready.{Writing}
@@ -20,9 +19,13 @@ refusal_of name fault = answer.Photometry name (Lm fault)
 abbrev pub photometry_of : List ℕ → List ℕ → Plan Photometry
 photometry_of name text = accept (lm_of text) (refusal_of name)
 
+-- the most bytes of a photometry file: 4 MiB
+abbrev pub most_photometry_bytes : ℕ
+most_photometry_bytes = 4194304
+
 -- the photometry of a file
 abbrev pub photometry_file : List ℕ → Plan Photometry
-photometry_file name = and_then (file name PHOTOMETRY_LIMIT) (photometry_of name)
+photometry_file name = and_then (file name most_photometry_bytes) (photometry_of name)
 
 -- its text
 abbrev pub developed : Photometry → Plan Writing

@@ -17,7 +17,7 @@ use photo_web::Photometry;
 use std::alloc::Global;
 
 /// The most bytes of a photometry file.
-pub const PHOTOMETRY_LIMIT: usize = 4_194_304;
+const PHOTOMETRY_LIMIT: usize = 4_194_304;
 
 /// Reads the photometry file of that name, and writes its web.
 ///
