@@ -40,6 +40,9 @@ cd "$here" || exit 1
 run two-patches two-patches.solve.txt "" 0 solve two-patches.txt
 run store-room store-room.solve.txt "" 0 solve store-room.system.txt
 run office office.solve.txt "" 0 solve office.system.txt
+for luminaire in batwing street spot louvre; do
+  run "$luminaire" "$luminaire.photo.txt" "" 0 photo "$luminaire.ies"
+done
 
 for case in cases/*/; do
   name=$(basename "$case")
@@ -69,6 +72,11 @@ truncate -s 16777216 most.txt
 run most-bytes nothing "lux: system: header" 4 solve most.txt
 truncate -s 16777217 more.txt
 run too-long nothing "lux: file too long: more.txt" 6 solve more.txt
+run missing-photometry nothing "lux: cannot read none.ies" 6 photo none.ies
+truncate -s 4194304 most.ies
+run most-photometry-bytes nothing "lux: photometry most.ies: header" 5 photo most.ies
+truncate -s 4194305 more.ies
+run too-long-photometry nothing "lux: file too long: more.ies" 6 photo more.ies
 
 "$program" solve two.txt >&- 2>"$room/stderr"
 echo $? >"$room/status"
