@@ -15,6 +15,10 @@ mod ledgers;
 #[cfg(test)]
 mod lines;
 #[cfg(test)]
+mod numbers;
+#[cfg(test)]
+mod photometry;
+#[cfg(test)]
 mod solving;
 #[cfg(test)]
 mod systems;

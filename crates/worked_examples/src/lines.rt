@@ -1,5 +1,5 @@
-// Lines with their places, and numerals.
-use lux_lines::{Lines, numeral};
+// Lines and tokens with their places, the end of a file, and numerals.
+use lux_lines::{Lines, Tokens, body, numeral};
 use std::test::Fail;
 
 #[test]
@@ -46,6 +46,44 @@ fn a_numeral_is_written_in_one_way(rt: HostRuntime) -> Result<(), Fail> {
     ];
     for (word, value) in rows {
         assert_eq!(rt; numeral(word), value);
+    }
+    Ok(())
+}
+
+#[test]
+fn tokens_stand_between_separators(rt: HostRuntime) -> Result<(), Fail> {
+    let rows: [(&[u8], &[(u32, usize, &[u8])]); 4] = [
+        (b"", &[]),
+        (b" ,\t\r\n", &[]),
+        (b"1,2", &[(5, 0, b"1"), (5, 2, b"2")]),
+        (b"\na\r\n b;c", &[(6, 1, b"a"), (7, 5, b"b;c")]),
+    ];
+    for (text, expected) in rows {
+        let mut tokens = Tokens::new(text, 5);
+        for (number, start, bytes) in expected {
+            let Some(token) = tokens.next() else {
+                return Err(Fail::from("a token is missing"));
+            };
+            assert_eq!(rt; token.number, *number);
+            assert_eq!(rt; token.start, *start);
+            assert_eq!(rt; token.text, *bytes);
+        }
+        assert!(rt; tokens.next().is_none());
+    }
+    Ok(())
+}
+
+#[test]
+fn the_end_of_a_file_is_dropped(rt: HostRuntime) -> Result<(), Fail> {
+    let rows: [(&[u8], &[u8]); 5] = [
+        (b"a", b"a"),
+        (b"a \t\r\n", b"a"),
+        (b"a\n\x1a\n", b"a"),
+        (b"a\x1a\x1a", b"a\x1a"),
+        (b" \x1a ", b""),
+    ];
+    for (text, kept) in rows {
+        assert_eq!(rt; body(text), kept);
     }
     Ok(())
 }
