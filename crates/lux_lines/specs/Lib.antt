@@ -4,3 +4,7 @@ pub mod Walks
 pub mod Pieces
 pub mod Words
 pub mod Numerals
+pub mod Tokens
+pub mod TokenWalks
+pub mod TokenPieces
+pub mod Ends

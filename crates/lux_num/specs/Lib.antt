@@ -1,0 +1,4 @@
+pub mod Digits
+pub mod Decimal
+pub mod Scaled
+pub mod Quotients
