@@ -1,5 +1,5 @@
--- The lines of an LM-63 text up to its TILT line (IES LM-63-2002; which blanks count is this project's own rule).
-use Rattle.std.specs.Prelude.{ℕ, ◌+◌, Bool, true, false, if◌then◌else◌, Option, Some, None, List, [], ◌∷◌, drop, length, codes, find, nat_eq, is_some, option_and_then}
+-- The lines of an LM-63 text up to its TILT line (IES LM-63; which headers are read and which blanks count is this project's own rule).
+use Rattle.std.specs.Prelude.{ℕ, ◌+◌, ◌||◌, Bool, true, false, if◌then◌else◌, Option, Some, None, List, [], ◌∷◌, drop, length, codes, find, nat_eq, is_some, option_and_then}
 use Rattle.std.specs.List.{starts_with}
 use Rattle.std.specs.Str.{bytes_eq}
 use Rattle.duties.specs.Duties.{Duty, unless}
@@ -10,9 +10,12 @@ use Rattle.lux_lines.specs.Ends.{is_space, trimmed, trimmed_end}
 use Rattle.lm63_reader.specs.declared.faults.LmFault.{LmFault}
 use Rattle.lm63_reader.specs.declared.faults.LmFault.TheVariants.{Header, Tilt, TiltFile}
 
--- a header line, blanks and tabs at its end left out
+-- a header line of 2002, or of one of the older layouts with the same thirteen fields; blanks and tabs at its end are left out
 abbrev pub is_header : List ℕ → Bool
-is_header line = bytes_eq (trimmed_end is_space line) (codes "IESNA:LM-63-2002")
+is_header line =
+    bytes_eq (trimmed_end is_space line) (codes "IESNA:LM-63-2002")
+    || bytes_eq (trimmed_end is_space line) (codes "IESNA:LM-63-1995")
+    || bytes_eq (trimmed_end is_space line) (codes "IESNA91")
 
 -- a line begins with `TILT=`
 abbrev pub is_tilt : Piece → Bool

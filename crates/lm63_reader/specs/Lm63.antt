@@ -1,4 +1,4 @@
--- What an LM-63-2002 text stands for: the tests of the format in their order, and the photometry of a text that passes
+-- What an LM-63 text stands for: the tests of the format in their order, and the photometry of a text that passes
 -- them all. The limits, and where a number is cut, are this project's own.
 use Rattle.std.specs.Prelude.{ℕ, ◌+◌, ◌*◌, Bool, false, if◌then◌else◌, None, Result, List, [], ◌∷◌, is_some, unwrap_or}
 use Rattle.duties.specs.Duties.{Duty, unless, first, each, judged}

@@ -10,7 +10,7 @@ use thiserror::Error;
 /// from 0; list 0 has the vertical angles and list 1 the horizontal ones.
 #[derive(Clone, Copy, Debug, PartialEq, Eq, Error)]
 pub enum LmFault {
-    /// The first line isn't `IESNA:LM-63-2002`.
+    /// The first line is no header: `IESNA:LM-63-2002`, `IESNA:LM-63-1995` or `IESNA91`.
     #[error("no header")]
     Header,
     /// No line behind the first begins with `TILT=`.

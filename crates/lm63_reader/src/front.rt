@@ -47,7 +47,10 @@ fn read_header(source: &mut Lines) -> Result<(), LmFault>
 fn is_header(line: &[u8]) -> bool
     ensures { result ≡ is_header line.now }
 {
-    trim_end(line) == b"IESNA:LM-63-2002".as_slice()
+    let header = trim_end(line);
+    header == b"IESNA:LM-63-2002".as_slice()
+        || header == b"IESNA:LM-63-1995".as_slice()
+        || header == b"IESNA91".as_slice()
 }
 
 // The first line from here on that begins with `TILT=`.

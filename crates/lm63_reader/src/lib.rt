@@ -1,4 +1,4 @@
-//! LM-63-2002 photometry files.
+//! IES LM-63 photometry files: those of 2002, and older ones with the same thirteen fields.
 //!
 //! [`read_lm63`] reads a file in one pass: the lines up to the TILT line, then the numbers behind it token by token.
 //! What a text stands for is defined in `specs/Lm63.antt` as a list of duties over the whole text, the tests of the

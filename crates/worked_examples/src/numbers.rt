@@ -11,7 +11,11 @@ fn a_number_is_cut_to_places(rt: HostRuntime) -> Result<(), Fail> {
         (b"-0.0019", 3, Some(1)),
         (b"999E-3", 2, Some(99)),
         (b"+.5E1", 1, Some(50)),
-        (b"1E38", 0, Some(100_000_000_000_000_000_000_000_000_000_000_000_000)),
+        (
+            b"1E38",
+            0,
+            Some(100_000_000_000_000_000_000_000_000_000_000_000_000),
+        ),
         (b"1E30", 9, None),
     ];
     for (text, places, fixed) in rows {

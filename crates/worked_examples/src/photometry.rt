@@ -7,9 +7,11 @@ use photo_web::{SymKind, Web, WebFault};
 use std::test::Fail;
 use symmetry::expand;
 
-const AXIS: &str = "IESNA:LM-63-2002\r\n[TEST] 1234\r\n[MANUFAC] Example\r\nTILT=NONE\r\n1 1000 1.25 3 1 1 2 0.1,0.1,0\r\n1 1 20\r\n0 45 90\r\n0\r\n100.5, 80 0.4\r\n";
+const AXIS: &str =
+    "IESNA:LM-63-2002\r\n[TEST] 1234\r\n[MANUFAC] Example\r\nTILT=NONE\r\n1 1000 1.25 3 1 1 2 0.1,0.1,0\r\n1 1 20\r\n0 45 90\r\n0\r\n100.5, 80 0.4\r\n";
 
-const AXIS_WEB: &str = "photometry lm63\nsymmetry axis\ngammas 0 45000 90000\nplane 0 125625000 100000000 500000\nplane 360000 125625000 100000000 500000\n";
+const AXIS_WEB: &str =
+    "photometry lm63\nsymmetry axis\ngammas 0 45000 90000\nplane 0 125625000 100000000 500000\nplane 360000 125625000 100000000 500000\n";
 
 #[test]
 fn a_web_is_refused_by_its_first_fault(rt: HostRuntime) -> Result<(), Fail> {
@@ -19,7 +21,12 @@ fn a_web_is_refused_by_its_first_fault(rt: HostRuntime) -> Result<(), Fail> {
         (&[0, 350_000], &[], &[], WebFault::Planes { at: 1 }),
         (&[0, 0, 360_000], &[], &[], WebFault::Planes { at: 1 }),
         (&[0, 360_000], &[0], &[], WebFault::Gammas { at: 1 }),
-        (&[0, 360_000], &[0, 180_001], &[], WebFault::Gammas { at: 1 }),
+        (
+            &[0, 360_000],
+            &[0, 180_001],
+            &[],
+            WebFault::Gammas { at: 1 },
+        ),
         (&[0, 360_000], &[0, 90_000], &[1, 2, 3], WebFault::Values),
         (
             &[0, 360_000],
@@ -29,7 +36,10 @@ fn a_web_is_refused_by_its_first_fault(rt: HostRuntime) -> Result<(), Fail> {
         ),
     ];
     for (planes, gammas, values, expected) in rows {
-        assert_eq!(rt; Web::new(alloc, planes, gammas, values).err(), Some(expected));
+        assert_eq!(rt;
+            Web::new(alloc, planes, gammas, values).err(),
+            Some(expected)
+        );
     }
     let web = Web::new(alloc, &[0, 360_000], &[0, 90_000], &[1, 2, 3, 4])?;
     assert_eq!(rt; web.planes(), [0, 360_000].as_slice());
@@ -47,7 +57,10 @@ fn planes_are_mirrored_and_closed(rt: HostRuntime) -> Result<(), Fail> {
         &[0, 90_000],
         &[10, 1, 20, 2, 30, 3],
     )?;
-    assert_eq!(rt; web.planes(), [0, 90_000, 180_000, 270_000, 360_000].as_slice());
+    assert_eq!(rt;
+        web.planes(),
+        [0, 90_000, 180_000, 270_000, 360_000].as_slice()
+    );
     let web = expand(
         alloc,
         SymKind::Full,
@@ -85,7 +98,12 @@ fn photo_writes_the_web(rt: HostRuntime) -> Result<(), Fail> {
     files.push(file(alloc, "no.ies", "IESNA:LM-63-2002\nTILT=NONE\n1 x\n")?)?;
     let rows: [(&str, u8, &str, &str); 3] = [
         ("a.ies", 0, AXIS_WEB, ""),
-        ("no.ies", 5, "", "lux: photometry no.ies: number 3 bad byte 0\n"),
+        (
+            "no.ies",
+            5,
+            "",
+            "lux: photometry no.ies: number 3 bad byte 0\n",
+        ),
         ("none", 6, "", "lux: cannot read none\n"),
     ];
     for (name, status, written, note) in rows {
