@@ -5,8 +5,7 @@ use Rattle.lux_top.specs.declared.commands.Command.{Command}
 use Rattle.lux_top.specs.declared.commands.Command.TheVariants.{Solve, Photo}
 use Rattle.system_file.specs.SystemText.{system_of}
 use Rattle.lux_top.specs.Solving.{system_file, limited, within_limits, limited_file, solved, solving}
-use Rattle.lm63_reader.specs.Lm63.{lm_of}
-use Rattle.lux_top.specs.Photographing.{refusal_of, photometry_file, developed, photographing}
+use Rattle.lux_top.specs.Photographing.{photometry_in, refusal_of, photometry_file, developed, photographing}
 use Rattle.lux_top.specs.Words.{plan_of}
 use Rattle.lux_top.proofs.Caused.{IsPlain, IsAny, IsDone, plain_accept, plain_then}
 
@@ -20,7 +19,7 @@ pub plain_solving : (name : List ℕ) → IsPlain IsDone (solving name)
 plain_solving name = plain_then IsAny IsDone (limited_file name) solved (plain_limited name) (λ problem any. refl)
 
 pub plain_photographing : (name : List ℕ) → IsPlain IsDone (photographing name)
-plain_photographing name = plain_then IsAny IsDone (photometry_file name) developed (λ text. plain_accept (lm_of text) (refusal_of name) (λ fault. refl)) (λ photometry any. refl)
+plain_photographing name = plain_then IsAny IsDone (photometry_file name) developed (λ text. plain_accept (photometry_in text) (refusal_of name) (λ fault. refl)) (λ photometry any. refl)
 
 pub plain_plan : (command : Option Command) → IsPlain IsDone (plan_of command)
 plain_plan None = refl

@@ -1,6 +1,8 @@
 -- The note of each answer: one line for standard error. The words are this project's own. A new answer or fault adds a line.
 use Rattle.std.specs.Prelude.{◌⊎◌, ℕ, List, [], ◌++◌, codes}
 use Rattle.std.specs.Fmt.{decimal}
+use Rattle.eulumdat_reader.specs.declared.faults.LdtFault.{LdtFault}
+use Rattle.eulumdat_reader.specs.declared.faults.LdtFault.TheVariants as ldt
 use Rattle.flux_system.specs.declared.faults.LimitFault.{LimitFault}
 use Rattle.flux_system.specs.declared.faults.LimitFault.TheVariants.{FluxTooLarge, TooManyTakes}
 use Rattle.lm63_reader.specs.declared.faults.LmFault.{LmFault}
@@ -12,7 +14,7 @@ use Rattle.system_file.specs.declared.faults.SysFault.{SysFault}
 use Rattle.system_file.specs.declared.faults.SysFault.TheVariants as system
 use Rattle.lux_top.specs.declared.answers.Answer.{Answer}
 use Rattle.lux_top.specs.declared.answers.PhotoFault.{PhotoFault}
-use Rattle.lux_top.specs.declared.answers.PhotoFault.TheVariants.{Lm}
+use Rattle.lux_top.specs.declared.answers.PhotoFault.TheVariants.{Lm, Ldt}
 use Rattle.lux_top.specs.declared.answers.Answer.TheVariants.{Done, Usage, Read, TooLong, System, Photometry, Limits, Write, Memory}
 
 -- a fault's name in lower case, and its numbers
@@ -50,9 +52,25 @@ text_of_lm (lm.TooBright at) = codes "too bright " ++ decimal at
 text_of_lm (lm.Trailing line) = codes "trailing " ++ decimal line
 text_of_lm lm.Memory = codes "memory"
 
+abbrev pub text_of_ldt : LdtFault → List ℕ
+text_of_ldt (ldt.Short line) = codes "short " ++ decimal line
+text_of_ldt (ldt.Number line fault) = codes "number " ++ decimal line ++ codes " " ++ text_of_number fault
+text_of_ldt ldt.Symmetry = codes "symmetry"
+text_of_ldt ldt.PlaneCount = codes "plane count"
+text_of_ldt ldt.GammaCount = codes "gamma count"
+text_of_ldt (ldt.Factor line) = codes "factor " ++ decimal line
+text_of_ldt (ldt.LampSets n) = codes "lamp sets " ++ decimal n
+text_of_ldt (ldt.Angles list at) = codes "angles " ++ decimal list ++ codes " " ++ decimal at
+text_of_ldt ldt.Span = codes "span"
+text_of_ldt (ldt.NegativeIntensity at) = codes "negative intensity " ++ decimal at
+text_of_ldt (ldt.TooBright at) = codes "too bright " ++ decimal at
+text_of_ldt (ldt.Trailing line) = codes "trailing " ++ decimal line
+text_of_ldt ldt.Memory = codes "memory"
+
 -- the fault of a photometry file, in the words of its format
 abbrev pub text_of_photometry : PhotoFault → List ℕ
 text_of_photometry (Lm fault) = text_of_lm fault
+text_of_photometry (Ldt fault) = text_of_ldt fault
 
 abbrev pub text_of_limit : LimitFault → List ℕ
 text_of_limit (FluxTooLarge sum) = codes "flux too large " ++ decimal sum

@@ -4,16 +4,13 @@ use Rattle.lux_io.specs.Shelves.{ShelfState, Rose, IsFile, IsOverlong}
 use Rattle.lux_io.specs.Sinks.{Wrote, WroteSome}
 use Rattle.lux_io.specs.declared.blames.Count.TheVariants.{Faults, Overlong}
 use Rattle.flux_ledger.specs.declared.ledger.Ledger.{Ledger}
-use Rattle.lm63_reader.specs.Lm63.{lm_of}
 use Rattle.photo_web.specs.declared.photometry.Photometry.{Photometry}
 use Rattle.lux_top.specs.declared.answers.Answer.{Answer}
 use Rattle.lux_top.specs.declared.answers.Answer.TheVariants as answer
-use Rattle.lux_top.specs.declared.answers.PhotoFault.{PhotoFault}
-use Rattle.lux_top.specs.declared.answers.PhotoFault.TheVariants.{Lm}
 use Rattle.lux_top.specs.declared.answers.Worst.{Worst}
 use Rattle.lux_top.specs.declared.answers.Worst.TheVariants.{AllPass}
 use Rattle.lux_top.specs.Notes.{Noted}
-use Rattle.lux_top.specs.Photographing.{most_photometry_bytes}
+use Rattle.lux_top.specs.Photographing.{photometry_in, most_photometry_bytes}
 use Rattle.lux_top.specs.PhotometryText.{photometry_text}
 use Rattle.lux_top.specs.Ready.{Writing}
 use Rattle.lux_top.specs.Runs.{World, Refused}
@@ -22,7 +19,7 @@ use Rattle.lux_top.specs.Runs.{World, Refused}
 pub record IsPhotometryOf (shelf : ShelfState) (name : List ℕ) (photometry : Photometry) : Type 0 where
   pub text : List ℕ
   pub is_file : IsFile shelf name most_photometry_bytes text
-  pub accepted : lm_of text ≡ Ok photometry
+  pub accepted : photometry_in text ≡ Ok photometry
 
 -- the photometry of the file was written whole, and no note was put; there is no ledger
 pub record IsDeveloped (name : List ℕ) (before after : World) (answered : Option Ledger) (worst : Worst) : Type 0 where
@@ -40,16 +37,12 @@ pub record IsDevelopedInPart (name : List ℕ) (before after : World) : Type 0 w
   pub wrote : WroteSome before.out after.out (photometry_text photometry)
   pub noted : Noted answer.Write before.notes after.notes
 
--- the file's text is refused by this fault
-abbrev pub TextIsRefused : List ℕ → PhotoFault → Type 0
-TextIsRefused text (Lm fault) = lm_of text ≡ Err fault
-
 -- why a file is refused: this read failed; or found too many bytes; or its text is no photometry, with its first fault.
 -- Want of memory needs no reason, and no other answer refuses.
 abbrev pub PhotoRefusal : List ℕ → ShelfState → ShelfState → Answer → Type 0
 PhotoRefusal name before after (answer.Read file) = (file ≡ name) × Rose before.faults after.faults × (after.blame ≡ Some (record { count = Faults; name = name; limit = most_photometry_bytes }))
 PhotoRefusal name before after (answer.TooLong file) = (file ≡ name) × Rose before.overlong after.overlong × (after.blame ≡ Some (record { count = Overlong; name = name; limit = most_photometry_bytes })) × IsOverlong before name most_photometry_bytes
-PhotoRefusal name before after (answer.Photometry file fault) = (file ≡ name) × ((text : List ℕ) × IsFile before name most_photometry_bytes text × TextIsRefused text fault)
+PhotoRefusal name before after (answer.Photometry file fault) = (file ≡ name) × ((text : List ℕ) × IsFile before name most_photometry_bytes text × (photometry_in text ≡ Err fault))
 PhotoRefusal name before after answer.Memory = Unit {0}
 PhotoRefusal name before after _ = ⊥
 
@@ -61,7 +54,7 @@ PhotoRow name before after refusal = Refused refusal before after × PhotoRefusa
 
 -- why a text is refused
 abbrev pub PhotometryRefusal : List ℕ → List ℕ → Answer → Type 0
-PhotometryRefusal name text (answer.Photometry file fault) = (file ≡ name) × TextIsRefused text fault
+PhotometryRefusal name text (answer.Photometry file fault) = (file ≡ name) × (photometry_in text ≡ Err fault)
 PhotometryRefusal name text answer.Memory = Unit {0}
 PhotometryRefusal name text _ = ⊥
 

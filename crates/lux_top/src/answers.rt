@@ -1,4 +1,5 @@
 // What a call may answer.
+use eulumdat_reader::LdtFault;
 use flux_ledger::Ledger;
 use flux_system::LimitFault;
 use lm63_reader::LmFault;
@@ -17,9 +18,12 @@ pub enum Worst {
 /// Why a file is no photometry: the fault of the format that it is in.
 #[derive(Clone, Copy, Debug, PartialEq, Eq, Error)]
 pub enum PhotoFault {
-    /// It begins as no LM-63 file, or has another fault of one.
+    /// The fault of a file that begins as LM-63 (`IESNA` or `IES:`).
     #[error("{0}")]
     Lm(LmFault),
+    /// The fault of any other file, as EULUMDAT.
+    #[error("{0}")]
+    Ldt(LdtFault),
 }
 
 /// How a command ended. Each answer has its status (0 to 10) and, but for `Done`, one line of note.

@@ -1,9 +1,10 @@
 // The note and the status of each answer.
 ghost use Rattle.std.specs.Prelude.{◌≡◌, Some, IfOk, string_bytes};
 ghost use Rattle.lux_top.specs.Answers.{status_of, outcome_of};
-ghost use Rattle.lux_top.specs.Notes.{note, text_of, text_of_system, text_of_number, text_of_lm, text_of_photometry, text_of_limit};
+ghost use Rattle.lux_top.specs.Notes.{note, text_of, text_of_system, text_of_number, text_of_lm, text_of_ldt, text_of_photometry, text_of_limit};
 
 use crate::{Answer, Outcome, PhotoFault, Worst};
+use eulumdat_reader::LdtFault;
 use flux_system::LimitFault;
 use lm63_reader::LmFault;
 use lux_num::NumFault;
@@ -81,6 +82,35 @@ impl fmt::Display for LmWords {
     }
 }
 
+// A refusal of a EULUMDAT file in the words of a note.
+#[derive(Clone, Copy)]
+struct LdtWords(LdtFault);
+
+impl fmt::Display for LdtWords {
+    ghost output = { λ words. Some (text_of_ldt words.0) };
+
+    fn fmt<W: fmt::Write>(&self, f: &mut fmt::Formatter<W>) -> fmt::Result {
+        match self.0 {
+            LdtFault::Short { line } => write!(f, "short {line}"),
+            LdtFault::Number { line, fault } => {
+                let fault = NumberWords(fault);
+                write!(f, "number {line} {fault}")
+            }
+            LdtFault::Symmetry => write!(f, "symmetry"),
+            LdtFault::PlaneCount => write!(f, "plane count"),
+            LdtFault::GammaCount => write!(f, "gamma count"),
+            LdtFault::Factor { line } => write!(f, "factor {line}"),
+            LdtFault::LampSets { n } => write!(f, "lamp sets {n}"),
+            LdtFault::Angles { list, at } => write!(f, "angles {list} {at}"),
+            LdtFault::Span => write!(f, "span"),
+            LdtFault::NegativeIntensity { at } => write!(f, "negative intensity {at}"),
+            LdtFault::TooBright { at } => write!(f, "too bright {at}"),
+            LdtFault::Trailing { line } => write!(f, "trailing {line}"),
+            LdtFault::Memory => write!(f, "memory"),
+        }
+    }
+}
+
 // A refusal of a photometry file in the words of a note.
 #[derive(Clone, Copy)]
 struct PhotometryWords(PhotoFault);
@@ -89,9 +119,16 @@ impl fmt::Display for PhotometryWords {
     ghost output = { λ words. Some (text_of_photometry words.0) };
 
     fn fmt<W: fmt::Write>(&self, f: &mut fmt::Formatter<W>) -> fmt::Result {
-        let PhotoFault::Lm(fault) = self.0;
-        let words = LmWords(fault);
-        write!(f, "{words}")
+        match self.0 {
+            PhotoFault::Lm(fault) => {
+                let words = LmWords(fault);
+                write!(f, "{words}")
+            }
+            PhotoFault::Ldt(fault) => {
+                let words = LdtWords(fault);
+                write!(f, "{words}")
+            }
+        }
     }
 }
 

@@ -1,7 +1,6 @@
 // `photo FILE`: a photometry file is read, and its web written.
-ghost use Rattle.std.specs.Prelude.{◌≡◌, ◌<◌, ◌^◌, length, Ok, IfOk, IfErr};
-ghost use Rattle.lm63_reader.specs.Lm63.{lm_of};
-ghost use Rattle.lux_top.specs.Photographing.{photometry_of, photometry_file, developed, photographing};
+ghost use Rattle.std.specs.Prelude.{◌≡◌, ◌<◌, ◌^◌, length, Ok, Err, IfOk, IfErr, IfSome};
+ghost use Rattle.lux_top.specs.Photographing.{is_lm63, photometry_in, photometry_of, photometry_file, developed, photographing};
 ghost use Rattle.lux_top.specs.PhotoRows.{IsPhotometryOf, IsTextOf, IsPrint, PhotometryRefusal, PhotoRefusal, PhotoRow};
 ghost use Rattle.lux_top.specs.Plans.{Takes, Gives};
 ghost use Rattle.lux_top.specs.Runs.{world, Follows};
@@ -11,6 +10,7 @@ use crate::photometry_texts::photometry_bytes;
 use crate::readings::{copy_of, read_file};
 use crate::ready::Ready;
 use crate::{Answer, Outcome, PhotoFault, Worst};
+use eulumdat_reader::{LdtFault, read_ldt};
 use lm63_reader::{LmFault, read_lm63};
 use lux_io::{Name, Shelf, Sink};
 use photo_web::Photometry;
@@ -73,20 +73,45 @@ fn read_photometry<S: Shelf>(
 fn accept_text(alloc: Global, name: &Name, text: Vec<u8>) -> Result<Photometry, Answer>
     requires { length text.items < 2 ^ 31 }
     ensures given { Gives (photometry_of name.now text.items) result }
-    ensures accepted { IfOk result (λ photometry. lm_of text.items ≡ Ok photometry) }
+    ensures accepted { IfOk result (λ photometry. photometry_in text.items ≡ Ok photometry) }
     ensures refused { IfErr result (PhotometryRefusal name.now text.items) }
 {
-    match read_lm63(alloc, &text) {
+    match read_text(alloc, &text) {
         Ok(photometry) => Ok(photometry),
-        Err(LmFault::Memory) => Err(Answer::Memory),
-        Err(fault) => match copy_of(alloc, name) {
-            Ok(name) => Err(Answer::Photometry {
-                name,
-                fault: PhotoFault::Lm(fault),
-            }),
+        Err(None) => Err(Answer::Memory),
+        Err(Some(fault)) => match copy_of(alloc, name) {
+            Ok(name) => Err(Answer::Photometry { name, fault }),
             Err(_) => Err(Answer::Memory),
         },
     }
+}
+
+// The photometry of a text by the reader of its format. Without a fault the error is want of memory.
+#[tactic(auto, unfolding(crate::specs::Photographing::photometry_in))]
+fn read_text(alloc: Global, text: &[u8]) -> Result<Photometry, Option<PhotoFault>>
+    requires { length text.now < 2 ^ 31 }
+    ensures ok { IfOk result (λ photometry. photometry_in text.now ≡ Ok photometry) }
+    ensures fault { IfErr result (λ fault. IfSome fault (λ fault. photometry_in text.now ≡ Err fault)) }
+{
+    if is_lm63(text) {
+        return match read_lm63(alloc, text) {
+            Ok(photometry) => Ok(photometry),
+            Err(LmFault::Memory) => Err(None),
+            Err(fault) => Err(Some(PhotoFault::Lm(fault))),
+        };
+    }
+    match read_ldt(alloc, text) {
+        Ok(photometry) => Ok(photometry),
+        Err(LdtFault::Memory) => Err(None),
+        Err(fault) => Err(Some(PhotoFault::Ldt(fault))),
+    }
+}
+
+// Whether a text begins as LM-63.
+fn is_lm63(text: &[u8]) -> bool
+    ensures { result ≡ is_lm63 text.now }
+{
+    text.starts_with(b"IESNA") || text.starts_with(b"IES:")
 }
 
 // The text of a photometry.
