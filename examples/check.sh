@@ -43,6 +43,9 @@ run office office.solve.txt "" 0 solve office.system.txt
 for luminaire in batwing street spot louvre; do
   run "$luminaire" "$luminaire.photo.txt" "" 0 photo "$luminaire.ies"
 done
+for luminaire in batwing street spot; do
+  run "$luminaire-eulumdat" "$luminaire-eulumdat.photo.txt" "" 0 photo "$luminaire.ldt"
+done
 
 for case in cases/*/; do
   name=$(basename "$case")
@@ -74,7 +77,7 @@ truncate -s 16777217 more.txt
 run too-long nothing "lux: file too long: more.txt" 6 solve more.txt
 run missing-photometry nothing "lux: cannot read none.ies" 6 photo none.ies
 truncate -s 4194304 most.ies
-run most-photometry-bytes nothing "lux: photometry most.ies: header" 5 photo most.ies
+run most-photometry-bytes nothing "lux: photometry most.ies: short 2" 5 photo most.ies
 truncate -s 4194305 more.ies
 run too-long-photometry nothing "lux: file too long: more.ies" 6 photo more.ies
 
