@@ -46,6 +46,7 @@ done
 for luminaire in batwing street spot; do
   run "$luminaire-eulumdat" "$luminaire-eulumdat.photo.txt" "" 0 photo "$luminaire.ldt"
 done
+run small-eulumdat small.photo.txt "" 0 photo small.ldt
 
 for case in cases/*/; do
   name=$(basename "$case")

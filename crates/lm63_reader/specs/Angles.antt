@@ -1,10 +1,9 @@
 -- The lists of angles, in millidegrees, and the symmetry of the horizontal ones.
-use Rattle.std.specs.Prelude.{ℕ, ◌+◌, ◌-◌, ◌==◌, ◌&&◌, not, nat_le, nat_lt, Bool, if◌then◌else◌, Option, Some, None, List, length, map, slice_index}
+use Rattle.std.specs.Prelude.{ℕ, ◌+◌, ◌-◌, ◌==◌, ◌&&◌, nat_lt, if◌then◌else◌, Option, Some, None, List, length, map, slice_index}
 use Rattle.std.specs.List.{range_with_len}
 use Rattle.duties.specs.Duties.{Duty, unless}
 use Rattle.lux_lines.specs.Places.{Piece}
-use Rattle.lux_num.specs.declared.decimal.Decimal.{Decimal}
-use Rattle.lux_num.specs.Scaled.{cut, is_negative}
+use Rattle.photo_numbers.specs.Numbers.{angle_of, is_angle}
 use Rattle.photo_web.specs.declared.photometry.SymKind.{SymKind}
 use Rattle.photo_web.specs.declared.photometry.SymKind.TheVariants.{Axis, Quadrant, Plane0, Plane90, Full}
 use Rattle.symmetry.specs.Images.{has_span}
@@ -14,15 +13,11 @@ use Rattle.lm63_reader.specs.Fields.{number_at, field}
 
 -- the angle at a place of a list that begins at another place, cut
 abbrev pub angle : List Piece → ℕ → ℕ → ℕ
-angle all start at = cut (number_at all (start + at)) 3
+angle all start at = angle_of (number_at all (start + at))
 
 -- the least angle that may stand at a place: one above the angle before it
 abbrev pub least_angle : List Piece → ℕ → ℕ → ℕ
 least_angle all start at = if at == 0 then 0 else angle all start (at - 1) + 1
-
--- a number is no negative angle, and cut it is from the least to the most
-abbrev pub is_angle : ℕ → ℕ → Decimal → Bool
-is_angle least most number = not (is_negative number) && nat_le least (cut number 3) && nat_le (cut number 3) most
 
 -- the angle at a place is at most the most, and above the angle before it
 unfoldable pub angle_duty : ℕ → ℕ → List Piece → ℕ → ℕ → Duty LmFault

@@ -1,11 +1,10 @@
 -- The numbers behind the TILT line, by their place.
-use Rattle.std.specs.Prelude.{ℕ, ◌+◌, ◌&&◌, not, nat_le, Bool, Option, Some, None, Result, Ok, Err, List, [], ◌∷◌, length, slice_get, is_some, unwrap_or, pos, false}
+use Rattle.std.specs.Prelude.{ℕ, ◌+◌, Option, Some, None, Result, Ok, Err, List, [], ◌∷◌, length, slice_get, pos, false}
 use Rattle.duties.specs.Duties.{Duty, first, each}
 use Rattle.lux_lines.specs.Places.{Piece}
 use Rattle.lux_num.specs.declared.decimal.Decimal.{Decimal}
 use Rattle.lux_num.specs.declared.decimal.NumFault.{NumFault}
 use Rattle.lux_num.specs.Decimal.{number_of}
-use Rattle.lux_num.specs.Scaled.{whole, is_negative}
 use Rattle.lm63_reader.specs.declared.faults.LmFault.{LmFault}
 use Rattle.lm63_reader.specs.declared.faults.LmFault.TheVariants.{Short, Number, Trailing}
 
@@ -60,11 +59,3 @@ no_token all place = of_token (slice_get all place)
     of_token : Option Piece → Duty LmFault
     of_token None = None
     of_token (Some token) = Some (Trailing token.number)
-
--- what a number counts: the whole number that it is, 0 where it is none
-abbrev pub count_of : Decimal → ℕ
-count_of number = unwrap_or (whole number) 0
-
--- a whole number, not negative, from one to another
-abbrev pub is_whole_within : ℕ → ℕ → Decimal → Bool
-is_whole_within low high number = is_some (whole number) && not (is_negative number) && nat_le low (count_of number) && nat_le (count_of number) high

@@ -5,7 +5,8 @@ use Rattle.lux_lines.specs.Places.{Piece}
 use Rattle.lux_num.specs.Scaled.{cut, is_limited}
 use Rattle.lm63_reader.specs.declared.faults.LmFault.{LmFault}
 use Rattle.lm63_reader.specs.declared.faults.LmFault.TheVariants.{PhotometricType, Units, Count, Factor}
-use Rattle.lm63_reader.specs.Fields.{number_at, field, any_numbers, count_of, is_whole_within}
+use Rattle.photo_numbers.specs.Numbers.{count_of, is_whole_within}
+use Rattle.lm63_reader.specs.Fields.{number_at, field, any_numbers}
 
 -- Included tilt: lamp geometry, number of pairs, angles and factors. They are read and not applied.
 unfoldable pub tilt_duties : List Piece → ℕ → List (Duty LmFault)

@@ -1,15 +1,17 @@
 // The numbers behind the TILT line, one after another.
-ghost use Rattle.std.specs.Prelude.{◌≡◌, ◌+◌, ◌*◌, ◌<◌, ◌≤◌, ◌^◌, IfOk, IfSome, OnOk, length, is_some};
+ghost use Rattle.std.specs.Prelude.{◌≡◌, ◌+◌, ◌*◌, ◌<◌, ◌≤◌, ◌^◌, IfOk, OnOk, length};
 ghost use Rattle.duties.specs.Duties.{Answers, unless};
 ghost use Rattle.lux_lines.specs.TokenWalks.{all_tokens};
 ghost use Rattle.lux_lines.specs.TokenPieces.{token_piece};
 ghost use Rattle.lux_num.specs.Scaled.{cut, is_limited};
+ghost use Rattle.photo_numbers.specs.Numbers.{count_of, is_whole_within};
 ghost use Rattle.lm63_reader.specs.declared.faults.LmFault.TheVariants.{Memory};
-ghost use Rattle.lm63_reader.specs.Fields.{number_at, numeric, numeric_token, token_number, field, any_numbers, no_token, count_of, is_whole_within};
+ghost use Rattle.lm63_reader.specs.Fields.{number_at, numeric, numeric_token, token_number, field, any_numbers, no_token};
 
 use crate::LmFault;
 use lux_lines::{Token, Tokens};
 use lux_num::Decimal;
+use photo_numbers::whole_within;
 
 /// The next token as a number.
 pub(crate) fn read_number(source: &mut Tokens) -> Result<Decimal, LmFault>
@@ -73,20 +75,6 @@ pub(crate) fn read_whole(
         Some(whole) => Ok(whole),
         None => Err(fault),
     }
-}
-
-// The number, where it is whole, not negative and from `low` to `high`.
-#[tactic(auto, using(std::proofs::lemmas::Bool::Decides::nat_tests))]
-fn whole_within(number: &Decimal, low: u32, high: u32) -> Option<u32>
-    ensures exactly { is_some result ≡ is_whole_within low high number.now }
-    ensures value { IfSome result (λ whole. whole ≡ count_of number.now) }
-    ensures within { IfSome result (λ whole. (low ≤ whole) × (whole ≤ high)) }
-{
-    let whole = number.whole()?;
-    if number.is_negative() || whole < u128::from(low) || u128::from(high) < whole {
-        return None;
-    }
-    Some(whole as u32)
 }
 
 /// The next token as a number from 0 to `most`, in billionths.

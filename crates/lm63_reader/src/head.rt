@@ -3,8 +3,9 @@ ghost use Rattle.std.specs.Prelude.{◌≡◌, ◌+◌, ◌<◌, ◌≤◌, ◌^
 ghost use Rattle.duties.specs.Duties.{Answers, first};
 ghost use Rattle.lux_lines.specs.TokenWalks.{all_tokens};
 ghost use Rattle.lux_num.specs.Scaled.{cut};
+ghost use Rattle.photo_numbers.specs.Numbers.{count_of};
 ghost use Rattle.lm63_reader.specs.declared.faults.LmFault.TheVariants.{Memory};
-ghost use Rattle.lm63_reader.specs.Fields.{number_at, count_of};
+ghost use Rattle.lm63_reader.specs.Fields.{number_at};
 ghost use Rattle.lm63_reader.specs.Heads.{tilt_duties, tilt_size, lamp_duties, count_duties, factor_duties, head_duties, joined, factor, verticals, horizontals};
 
 use crate::LmFault;

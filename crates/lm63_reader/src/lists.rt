@@ -4,17 +4,19 @@ ghost use Rattle.std.specs.List.Sorted.{IsStrictlyIncreasing};
 ghost use Rattle.std.specs.List.{list_any};
 ghost use Rattle.duties.specs.Duties.{Answers, each, unless, first};
 ghost use Rattle.lux_lines.specs.TokenWalks.{all_tokens};
-ghost use Rattle.lux_num.specs.Scaled.{cut, is_negative};
+ghost use Rattle.lux_num.specs.Scaled.{is_negative};
+ghost use Rattle.photo_numbers.specs.Numbers.{angle_of, is_angle};
 ghost use Rattle.symmetry.specs.Images.{has_span};
 ghost use Rattle.lm63_reader.specs.declared.faults.LmFault.TheVariants.{Memory, NegativeIntensity, TooBright};
 ghost use Rattle.lm63_reader.specs.Fields.{number_at, field};
-ghost use Rattle.lm63_reader.specs.Angles.{angle, angles, angle_duty, least_angle, is_angle, span_symmetry};
+ghost use Rattle.lm63_reader.specs.Angles.{angle, angles, angle_duty, least_angle, span_symmetry};
 ghost use Rattle.lm63_reader.specs.Intensities.{value_duty, intensities, intensity_of, is_intensity, microcandela};
 
 use crate::LmFault;
 use crate::fields::read_number;
 use lux_lines::Tokens;
 use lux_num::Decimal;
+use photo_numbers::angle_within;
 use photo_web::{FULL_TURN, MOST_INTENSITY, SymKind};
 use std::alloc::Global;
 
@@ -49,33 +51,16 @@ pub(crate) fn read_angles(
 #[tactic(auto, using(duties::proofs::Orders::steps), unfolding(crate::specs::Fields::field))]
 fn read_angle(source: &mut Tokens, least: u32, most: u32, fault: LmFault) -> Result<u32, LmFault>
     ensures answer { Answers Memory (field (all_tokens source.old) source.old.read (λ x. unless (is_angle least most x) fault)) result }
-    ensures value { IfOk result (λ angle. angle ≡ cut (number_at (all_tokens source.old) source.old.read) 3) }
+    ensures value { IfOk result (λ angle. angle ≡ angle_of (number_at (all_tokens source.old) source.old.read)) }
     ensures within { IfOk result (λ angle. (least ≤ angle) × (angle ≤ most)) }
     ensures same { OnOk result (all_tokens source.new ≡ all_tokens source.old) }
     ensures next { OnOk result (source.new.read ≡ source.old.read + 1) }
 {
     let number = read_number(source)?;
-    match angle_of(&number, least, most) {
+    match angle_within(&number, least, most) {
         Some(angle) => Ok(angle),
         None => Err(fault),
     }
-}
-
-// The angle in millidegrees, cut, where it isn't negative and from `least` to `most`.
-#[tactic(auto, using(std::proofs::lemmas::Bool::Decides::nat_tests))]
-fn angle_of(number: &Decimal, least: u32, most: u32) -> Option<u32>
-    ensures exactly { is_some result ≡ is_angle least most number.now }
-    ensures value { IfSome result (λ angle. angle ≡ cut number.now 3) }
-    ensures within { IfSome result (λ angle. (least ≤ angle) × (angle ≤ most)) }
-{
-    if number.is_negative() {
-        return None;
-    }
-    let angle = number.to_fixed(3)?;
-    if angle < u128::from(least) || u128::from(most) < angle {
-        return None;
-    }
-    Some(angle as u32)
 }
 
 /// The symmetry whose span some horizontal angles have.

@@ -2,7 +2,8 @@ use Rattle.std.proofs.Common.{◌≡◌, ◌∙◌, false, sym, ap}
 use Rattle.duties.proofs.Orders.{hands_on, this_met, this_fails, unless_fails}
 use Rattle.lux_lines.specs.TokenWalks.{all_tokens}
 use Rattle.lm63_reader.specs.declared.faults.LmFault.TheVariants.{Memory}
-use Rattle.lm63_reader.specs.Fields.{field, number_at, is_whole_within}
+use Rattle.photo_numbers.specs.Numbers.{is_whole_within}
+use Rattle.lm63_reader.specs.Fields.{field, number_at}
 use Rattle.lm63_reader.proofs.fields.read_whole.Goals as goal
 
 pub returns-in_err-number-clause-answer : goal.returns-in_err-number-clause-answer

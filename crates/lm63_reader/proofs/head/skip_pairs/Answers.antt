@@ -2,7 +2,8 @@ use Rattle.std.proofs.Common.{◌≡◌, ◌∙◌, ◌+◌, ◌*◌, arith}
 use Rattle.duties.proofs.Orders.{hands_on, this_met, this_fails}
 use Rattle.lux_lines.specs.TokenWalks.{all_tokens}
 use Rattle.lm63_reader.specs.declared.faults.LmFault.TheVariants.{Memory}
-use Rattle.lm63_reader.specs.Fields.{any_numbers, number_at, count_of}
+use Rattle.photo_numbers.specs.Numbers.{count_of}
+use Rattle.lm63_reader.specs.Fields.{any_numbers, number_at}
 use Rattle.lm63_reader.specs.Heads.{tilt_duties}
 use Rattle.lm63_reader.proofs.Walking.{last_decides}
 use Rattle.lm63_reader.proofs.head.skip_pairs.Goals as goal
