@@ -42,7 +42,7 @@ planes_below angle sym stored = filter (is_plane sym stored) (range_with_len 0 a
 abbrev pub planes_of : SymKind → List ℕ → List ℕ
 planes_of sym stored = planes_below 360001 sym stored
 
--- the place of the stored plane whose image an angle is
+-- the place of the stored plane whose image an angle is: with its symmetry's span there is one at most (`one_source` of `proofs/Laws.antt`)
 abbrev pub source : SymKind → List ℕ → ℕ → Option ℕ
 source sym stored angle = position (is_image sym angle) stored
 
