@@ -1,0 +1,43 @@
+-- The lists of angles, in millidegrees, and the symmetry of the horizontal ones.
+use Rattle.std.specs.Prelude.{ℕ, ◌+◌, ◌-◌, ◌==◌, ◌&&◌, not, nat_le, nat_lt, Bool, if◌then◌else◌, Option, Some, None, List, length, map, slice_index}
+use Rattle.std.specs.List.{range_with_len}
+use Rattle.duties.specs.Duties.{Duty, unless}
+use Rattle.lux_lines.specs.Places.{Piece}
+use Rattle.lux_num.specs.declared.decimal.Decimal.{Decimal}
+use Rattle.lux_num.specs.Scaled.{cut, is_negative}
+use Rattle.photo_web.specs.declared.photometry.SymKind.{SymKind}
+use Rattle.photo_web.specs.declared.photometry.SymKind.TheVariants.{Axis, Quadrant, Plane0, Plane90, Full}
+use Rattle.symmetry.specs.Images.{has_span}
+use Rattle.lm63_reader.specs.declared.faults.LmFault.{LmFault}
+use Rattle.lm63_reader.specs.declared.faults.LmFault.TheVariants.{Angles}
+use Rattle.lm63_reader.specs.Fields.{number_at, field}
+
+-- the angle at a place of a list that begins at another place, cut
+abbrev pub angle : List Piece → ℕ → ℕ → ℕ
+angle all start at = cut (number_at all (start + at)) 3
+
+-- the least angle that may stand at a place: one above the angle before it
+abbrev pub least_angle : List Piece → ℕ → ℕ → ℕ
+least_angle all start at = if at == 0 then 0 else angle all start (at - 1) + 1
+
+-- a number is no negative angle, and cut it is from the least to the most
+abbrev pub is_angle : ℕ → ℕ → Decimal → Bool
+is_angle least most number = not (is_negative number) && nat_le least (cut number 3) && nat_le (cut number 3) most
+
+-- the angle at a place is at most the most, and above the angle before it
+unfoldable pub angle_duty : ℕ → ℕ → List Piece → ℕ → ℕ → Duty LmFault
+angle_duty list most all start at = field all (start + at) (λ x. unless (is_angle (least_angle all start at) most x) (Angles list at))
+
+-- the angles of a list
+unfoldable pub angles : List Piece → ℕ → ℕ → List ℕ
+angles all start count = map (angle all start) (range_with_len 0 count)
+
+-- the symmetry whose span the horizontal angles have; a full turn is stored past half a turn
+unfoldable pub span_symmetry : List ℕ → Option SymKind
+span_symmetry planes =
+    if has_span Axis planes then Some Axis
+    else (if has_span Quadrant planes then Some Quadrant
+    else (if has_span Plane0 planes then Some Plane0
+    else (if has_span Plane90 planes then Some Plane90
+    else (if has_span Full planes && nat_lt 180000 (slice_index planes (length planes - 1)) then Some Full
+    else None))))

@@ -1,0 +1,163 @@
+// The lists behind the thirteen fields.
+ghost use Rattle.std.specs.Prelude.{◌≡◌, ◌==◌, ◌+◌, ◌*◌, ◌<◌, ◌≤◌, ◌^◌, ◌∷◌, [], not, false, All, IfOk, IfSome, IsTrue, OnOk, length, is_some};
+ghost use Rattle.std.specs.List.Sorted.{IsStrictlyIncreasing};
+ghost use Rattle.std.specs.List.{list_any};
+ghost use Rattle.duties.specs.Duties.{Answers, each, unless, first};
+ghost use Rattle.lux_lines.specs.TokenWalks.{all_tokens};
+ghost use Rattle.lux_num.specs.Scaled.{cut, is_negative};
+ghost use Rattle.symmetry.specs.Images.{has_span};
+ghost use Rattle.lm63_reader.specs.declared.faults.LmFault.TheVariants.{Memory, NegativeIntensity, TooBright};
+ghost use Rattle.lm63_reader.specs.Fields.{number_at, field};
+ghost use Rattle.lm63_reader.specs.Angles.{angle, angles, angle_duty, least_angle, is_angle, span_symmetry};
+ghost use Rattle.lm63_reader.specs.Intensities.{value_duty, intensities, intensity_of, is_intensity, microcandela};
+
+use crate::LmFault;
+use crate::fields::read_number;
+use lux_lines::Tokens;
+use lux_num::Decimal;
+use photo_web::{FULL_TURN, MOST_INTENSITY, SymKind};
+use std::alloc::Global;
+
+/// A list of so many angles of at most `most`, each above the one before it.
+pub(crate) fn read_angles(
+    alloc: Global,
+    source: &mut Tokens,
+    list: u8,
+    most: u32,
+    count: u32,
+) -> Result<Vec<u32>, LmFault>
+    requires { most < 2 ^ 31 }
+    ensures answer { Answers Memory (each count (angle_duty list most (all_tokens source.old) source.old.read)) result }
+    ensures value { IfOk result (λ v. v.items ≡ angles (all_tokens source.old) source.old.read count) }
+    ensures len { IfOk result (λ v. length v.items ≡ count) }
+    ensures rising { IfOk result (λ v. IsStrictlyIncreasing v.items) }
+    ensures limited { IfOk result (λ v. All (λ angle. angle ≤ most) v.items) }
+    ensures same { OnOk result (all_tokens source.new ≡ all_tokens source.old) }
+    ensures next { OnOk result (source.new.read ≡ source.old.read + count) }
+{
+    let mut angles = Vec::with_capacity(alloc, count as usize)?;
+    let mut least = 0;
+    for at in 0..count {
+        let angle = read_angle(source, least, most, LmFault::Angles { list, at })?;
+        angles.push(angle)?;
+        least = angle + 1;
+    }
+    Ok(angles)
+}
+
+// The next token as an angle from `least` to `most`.
+#[tactic(auto, using(duties::proofs::Orders::steps), unfolding(crate::specs::Fields::field))]
+fn read_angle(source: &mut Tokens, least: u32, most: u32, fault: LmFault) -> Result<u32, LmFault>
+    ensures answer { Answers Memory (field (all_tokens source.old) source.old.read (λ x. unless (is_angle least most x) fault)) result }
+    ensures value { IfOk result (λ angle. angle ≡ cut (number_at (all_tokens source.old) source.old.read) 3) }
+    ensures within { IfOk result (λ angle. (least ≤ angle) × (angle ≤ most)) }
+    ensures same { OnOk result (all_tokens source.new ≡ all_tokens source.old) }
+    ensures next { OnOk result (source.new.read ≡ source.old.read + 1) }
+{
+    let number = read_number(source)?;
+    match angle_of(&number, least, most) {
+        Some(angle) => Ok(angle),
+        None => Err(fault),
+    }
+}
+
+// The angle in millidegrees, cut, where it isn't negative and from `least` to `most`.
+#[tactic(auto, using(std::proofs::lemmas::Bool::Decides::nat_tests))]
+fn angle_of(number: &Decimal, least: u32, most: u32) -> Option<u32>
+    ensures exactly { is_some result ≡ is_angle least most number.now }
+    ensures value { IfSome result (λ angle. angle ≡ cut number.now 3) }
+    ensures within { IfSome result (λ angle. (least ≤ angle) × (angle ≤ most)) }
+{
+    if number.is_negative() {
+        return None;
+    }
+    let angle = number.to_fixed(3)?;
+    if angle < u128::from(least) || u128::from(most) < angle {
+        return None;
+    }
+    Some(angle as u32)
+}
+
+/// The symmetry whose span some horizontal angles have.
+#[tactic(auto, using(std::proofs::lemmas::Bool::Decides::nat_tests), unfolding(crate::specs::Angles::span_symmetry))]
+pub(crate) fn span_symmetry(planes: &[u32]) -> Option<SymKind>
+    requires { 1 ≤ length planes.now }
+    ensures value { result ≡ span_symmetry planes.now }
+    ensures span { IfSome result (λ sym. IsTrue (has_span sym planes.now)) }
+{
+    let last = planes[planes.len() - 1];
+    match planes[0] {
+        0 if planes.len() == 1 => Some(SymKind::Axis),
+        0 if last == 90_000 => Some(SymKind::Quadrant),
+        0 if last == 180_000 => Some(SymKind::Plane0),
+        0 if 180_000 < last && last <= FULL_TURN => Some(SymKind::Full),
+        90_000 if last == 270_000 && has_half(planes) => Some(SymKind::Plane90),
+        _ => None,
+    }
+}
+
+fn has_half(planes: &[u32]) -> bool
+    ensures { result ≡ list_any (λ angle. angle == 180000) planes.now }
+{
+    planes.iter().any(|angle| *angle == 180_000)
+}
+
+/// So many values times a factor (billionths), as intensities in microcandela.
+pub(crate) fn read_values(
+    alloc: Global,
+    source: &mut Tokens,
+    factor: u128,
+    count: u32,
+) -> Result<Vec<u64>, LmFault>
+    requires { factor ≤ 10 ^ 20 }
+    ensures answer { Answers Memory (each count (value_duty factor (all_tokens source.old) source.old.read)) result }
+    ensures value { IfOk result (λ v. v.items ≡ intensities factor (all_tokens source.old) source.old.read count) }
+    ensures len { IfOk result (λ v. length v.items ≡ count) }
+    ensures limited { IfOk result (λ v. All (λ value. value ≤ 10 ^ 15) v.items) }
+    ensures same { OnOk result (all_tokens source.new ≡ all_tokens source.old) }
+    ensures next { OnOk result (source.new.read ≡ source.old.read + count) }
+{
+    let mut values = Vec::with_capacity(alloc, count as usize)?;
+    for at in 0..count {
+        let value = read_value(source, factor, at)?;
+        values.push(value)?;
+    }
+    Ok(values)
+}
+
+// The next token as an intensity.
+#[tactic(auto, using(duties::proofs::Orders::steps), unfolding(crate::specs::Fields::field))]
+fn read_value(source: &mut Tokens, factor: u128, at: u32) -> Result<u64, LmFault>
+    requires { factor ≤ 10 ^ 20 }
+    ensures answer { Answers Memory (field (all_tokens source.old) source.old.read (λ x. first (unless (not (is_negative x)) (NegativeIntensity at) ∷ unless (is_intensity factor x) (TooBright at) ∷ []))) result }
+    ensures value { IfOk result (λ value. value ≡ intensity_of factor (number_at (all_tokens source.old) source.old.read)) }
+    ensures limited { IfOk result (λ value. value ≤ 10 ^ 15) }
+    ensures same { OnOk result (all_tokens source.new ≡ all_tokens source.old) }
+    ensures next { OnOk result (source.new.read ≡ source.old.read + 1) }
+{
+    let number = read_number(source)?;
+    if number.is_negative() {
+        return Err(LmFault::NegativeIntensity { at });
+    }
+    match intensity(&number, factor) {
+        Some(value) => Ok(value),
+        None => Err(LmFault::TooBright { at }),
+    }
+}
+
+// The intensity of a value that isn't negative, where it is at most 10^9 and its intensity at most 10^15 microcandela.
+#[tactic(auto, using(std::proofs::lemmas::Bool::Decides::nat_tests))]
+fn intensity(number: &Decimal, factor: u128) -> Option<u64>
+    requires factor { factor ≤ 10 ^ 20 }
+    requires sign { is_negative number.now ≡ false }
+    ensures exactly { is_some result ≡ is_intensity factor number.now }
+    ensures value { IfSome result (λ value. value ≡ intensity_of factor number.now) }
+    ensures limited { IfSome result (λ value. value ≤ 10 ^ 15) }
+{
+    let value = number.cut_within(9, 1_000_000_000)?;
+    let intensity = value * factor / 1_000_000_000_000;
+    if intensity > u128::from(MOST_INTENSITY) {
+        return None;
+    }
+    Some(intensity as u64)
+}
