@@ -10,10 +10,6 @@ use Rattle.lm63_reader.specs.declared.faults.LmFault.TheVariants.{Header, Tilt, 
 use Rattle.lm63_reader.specs.Front.{is_header, is_tilt, tilt_line, inclusion, tilt_inclusion, front_duties}
 
 module _ (text : List ℕ) where
-  pub header_fails : unless (is_header (line_text text 0)) Header ≡ Some Header → first (front_duties text) ≡ Some Header
-  unfolding front_duties
-  header_fails h = this_fails _ _ _ h
-
   pub tilt_fails : unless (is_header (line_text text 0)) Header ≡ None → tilt_line text ≡ None → first (front_duties text) ≡ Some Tilt
   unfolding front_duties
   tilt_fails header none = this_met _ _ header ∙ this_fails _ _ _ (unless_fails _ _ (ap is_some none))

@@ -6,8 +6,7 @@ use Rattle.std.proofs.Math.Nat.{pow-le-pow_right, mul-le-mul_left, mul-le-mul_ri
 use Rattle.lux_num.specs.declared.decimal.Decimal.{Decimal}
 use Rattle.lux_num.specs.Scaled.{scaled, is_scaled_within, is_scaled_whole, cut, fixed, is_at_most}
 use Rattle.std.proofs.Math.Nat.{mod-eq_of_lt}
-use Rattle.std.proofs.lemmas.Nat.{div-add-mod', pow-add}
-use Rattle.std.proofs.lemmas.Bool.Decides.{nat_tests}
+use Rattle.std.proofs.lemmas.Nat.{pow-add}
 use Rattle.std.proofs.lemmas.Bool.{ne_eqb, cases_lt}
 use Rattle.lux_num.proofs.Outcomes.{leb_holds, leb_fails, leb_means, leb_denies}
 use Rattle.lux_num.proofs.TenPowers.{power_positive}
@@ -33,10 +32,6 @@ lowered_is number (negsuc n) fits h =
       exact = ap (λ (k : ℕ). number % 10 ^ k == 0) e;
       small = leb_holds number (10 ^ 38 * 10 ^ (n + 1)) (omega arith);
     }
-
--- a number is a multiple where its quotient gives it back
-pub multiple_test : (n d : ℕ) → 0 < d → (n % d == 0) ≡ (n / d * d == n)
-multiple_test n d some = let whole : n / d * d + n % d ≡ n = div-add-mod' n d in grind (arith, nat_tests)
 
 -- past 128 bits only 0 is a multiple
 pub zero_test : (n d : ℕ) → n < d → (n % d == 0) ≡ (n == 0)

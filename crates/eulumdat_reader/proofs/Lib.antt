@@ -1,0 +1,4 @@
+pub mod Walking
+pub mod Growing
+pub mod Turning
+pub mod Whole

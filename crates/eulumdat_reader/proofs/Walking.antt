@@ -1,0 +1,71 @@
+-- Steps along the lines of a text.
+use Rattle.std.proofs.Common.{◌≡◌, ℕ, zero, suc, ◌+◌, ◌-◌, ◌<◌, ◌≤◌, List, [], ◌∷◌, Option, Some, None, length, map, drop, refl, sym, ap, ◌∙◌, arith, add-one}
+use Rattle.std.specs.Prelude.{slice_get, is_some}
+use Rattle.std.specs.List.{range_with_len}
+use Rattle.std.proofs.lemmas.List.{length-map}
+use Rattle.std.proofs.lemmas.List.Sums.{length-filter, count_by-le-length}
+use Rattle.std.proofs.lemmas.List.FromFn.{length-range_with_len}
+use Rattle.duties.specs.Duties.{first}
+use Rattle.duties.proofs.Orders.{unless_holds, unless_fails}
+use Rattle.lux_lines.specs.Places.{Piece}
+use Rattle.lux_lines.specs.Lines.{lines, lines_from, starts_line}
+use Rattle.eulumdat_reader.specs.declared.faults.LdtFault.{LdtFault}
+use Rattle.eulumdat_reader.specs.declared.faults.LdtFault.TheVariants.{Short}
+use Rattle.eulumdat_reader.specs.Rows.{row_at, row_number, numeric_row, number_at, present, numeric, blank_row, only_blanks}
+
+-- a text has no more lines than bytes
+pub few_lines : (text : List ℕ) → length (lines text) ≤ length text
+unfolding lines lines_from
+few_lines text = simp (length-map, length-filter) (omega (arith, count_by-le-length (starts_line text) (range_with_len 0 (length text - 0)), length-range_with_len 0 (length text - 0)))
+
+-- the line behind so many
+pub row_behind : (all : List Piece) (read : ℕ) → row_at all (read + 1) ≡ slice_get all read
+unfolding row_at
+row_behind all read = let e : read + 1 - 1 ≡ read = omega arith in rw e refl
+
+pub present_none : (all : List Piece) (row : ℕ) → row_at all row ≡ None → present all row ≡ Some (Short row)
+unfolding present
+present_none all row h = unless_fails _ _ (ap is_some h)
+
+pub present_some : (all : List Piece) (row : ℕ) (line : Piece) → row_at all row ≡ Some line → present all row ≡ None
+unfolding present
+present_some all row line h = unless_holds _ _ (ap is_some h)
+
+pub numeric_none : (all : List Piece) (row : ℕ) → row_at all row ≡ None → numeric all row ≡ Some (Short row)
+unfolding numeric
+numeric_none all row h = rw h refl
+
+pub numeric_some : (all : List Piece) (row : ℕ) (line : Piece) → row_at all row ≡ Some line → (numeric all row ≡ numeric_row row line.text) × (number_at all row ≡ row_number line.text)
+unfolding numeric number_at
+numeric_some all row line h = (rw h refl, rw h refl)
+
+-- where a line is missing, it is no number
+pub numeric_missing : (all : List Piece) (row : ℕ) (fault : LdtFault) → present all row ≡ Some fault → numeric all row ≡ Some fault
+numeric_missing all row fault h = by_line (row_at all row) refl
+  where
+    by_line : (line : Option Piece) → row_at all row ≡ line → numeric all row ≡ Some fault
+    by_line None is = numeric_none all row is ∙ (sym (present_none all row is) ∙ h)
+    by_line (Some line) is = absurd (let none = present_some all row line is in cc)
+
+-- what is left of a list begins with the element at its place
+pub left_is : {X : Type 0} (xs : List X) (k : ℕ) (x : X) → slice_get xs k ≡ Some x → (drop k xs ≡ x ∷ drop (k + 1) xs) × (k < length xs)
+left_is [] k x h = absurd (cc)
+left_is (y ∷ xs) zero x h = (cc, omega arith)
+left_is (y ∷ xs) (suc k) x h = let more = left_is xs k x h in (rw add-one (rw add-one at more.0), omega (arith, more.1))
+
+pub nothing_left : {X : Type 0} (xs : List X) (k : ℕ) → slice_get xs k ≡ None → drop k xs ≡ []
+nothing_left [] zero h = refl
+nothing_left [] (suc k) h = refl
+nothing_left (y ∷ xs) zero h = absurd (cc)
+nothing_left (y ∷ xs) (suc k) h = nothing_left xs k h
+
+-- that the lines behind so many are blank
+pub blanks_behind : (all : List Piece) (read : ℕ) → only_blanks all (read + 1) ≡ first (map blank_row (drop read all))
+unfolding only_blanks
+blanks_behind all read = let e : read + 1 - 1 ≡ read = omega arith in rw e refl
+
+-- a last duty decides
+pub last_decides : {F : Type 0} (duty : Option F) → first (duty ∷ []) ≡ duty
+unfolding first
+last_decides None = refl
+last_decides (Some fault) = refl
