@@ -62,7 +62,7 @@ abbrev pub turned : ℕ → ℕ
 turned angle = (360000 + 180000 - angle) % 360000
 
 -- The planes of the web that are stored, in rising order, by the angles read, in the order of lines. For Plane90 the
--- stored ones begin behind the first quarter, and turned they stand the other way round.
+-- stored ones stand from 270 degrees on, and go on at 0; turned they rise in the other order.
 abbrev pub stored_planes : SymKind → ℕ → List ℕ → List ℕ
 stored_planes Full count angles = angles
 stored_planes Axis count angles = 0 ∷ []
@@ -74,7 +74,8 @@ stored_planes Quadrant count angles = angles
 unfoldable pub reversed_rows : ℕ → ℕ → List ℕ → List ℕ
 reversed_rows count width values = flat_map (λ i. row_from width values (count - 1 - i)) (range_with_len 0 count)
 
--- the rows of the stored planes, by the values in the order of lines; for Plane90 the other way round
+-- The rows of the stored planes, by the values in the order of lines. For Plane90 these rows stand from 270 degrees on, as
+-- the stored planes do, so that they come the other way round.
 abbrev pub stored_rows : SymKind → ℕ → ℕ → List ℕ → List ℕ
 stored_rows Full count width values = values
 stored_rows Axis count width values = values

@@ -5,6 +5,8 @@
 #![tactic(auto)]
 
 #[cfg(test)]
+mod eulumdat;
+#[cfg(test)]
 mod exact;
 #[cfg(test)]
 mod fakes;

@@ -1,6 +1,5 @@
 // Webs, their expansion, and `photo` over files in memory.
 use crate::fakes::file;
-use eulumdat_reader::{LdtFault, read_ldt};
 use lm63_reader::{LmFault, read_lm63};
 use lux_io::{FreeGate, MemShelf, MemSink};
 use lux_top::lux;
@@ -15,9 +14,11 @@ const AXIS_WEB: &str =
     "photometry lm63\nsymmetry axis\ngammas 0 45000 90000\nplane 0 125625000 100000000 500000\nplane 360000 125625000 100000000 500000\n";
 
 // A quarter of a turn on both sides of a plane is stored, from 270 degrees on.
-const TURNED: &str = "Example\n2\n3\n4\n90\n2\n90\nr\nn\n1\nb.ldt\nd\n0\n0\n0\n0\n0\n0\n0\n0\n0\n100\n80\n1\n0\n1\n1\nLED\n3600\n4000\n80\n30\n0\n0\n0\n0\n0\n0\n0\n0\n0\n0\n0\n90\n180\n270\n0\n90\n250,5\n0\n100\n10\n50\n5\n";
+const TURNED: &str =
+    "Example\n2\n3\n4\n90\n2\n90\nr\nn\n1\nb.ldt\nd\n0\n0\n0\n0\n0\n0\n0\n0\n0\n100\n80\n1\n0\n1\n1\nLED\n3600\n4000\n80\n30\n0\n0\n0\n0\n0\n0\n0\n0\n0\n0\n0\n90\n180\n270\n0\n90\n250,5\n0\n100\n10\n50\n5\n";
 
-const TURNED_WEB: &str = "photometry ldt\nsymmetry plane90\ngammas 0 90000\nplane 0 360000000 36000000\nplane 90000 180000000 18000000\nplane 180000 360000000 36000000\nplane 270000 901800000 0\nplane 360000 360000000 36000000\n";
+const TURNED_WEB: &str =
+    "photometry ldt\nsymmetry plane90\ngammas 0 90000\nplane 0 360000000 36000000\nplane 90000 180000000 18000000\nplane 180000 360000000 36000000\nplane 270000 901800000 0\nplane 360000 360000000 36000000\n";
 
 #[test]
 fn a_web_is_refused_by_its_first_fault(rt: HostRuntime) -> Result<(), Fail> {
@@ -92,21 +93,6 @@ fn a_file_is_refused_by_its_first_fault(rt: HostRuntime) -> Result<(), Fail> {
     ];
     for (text, expected) in rows {
         assert_eq!(rt; read_lm63(alloc, text.as_bytes()).err(), Some(expected));
-    }
-    Ok(())
-}
-
-#[test]
-fn an_eulumdat_file_is_refused_by_its_first_fault(rt: HostRuntime) -> Result<(), Fail> {
-    let alloc = rt.alloc();
-    assert!(rt; read_ldt(alloc, TURNED.as_bytes()).is_ok());
-    let rows: [(&str, LdtFault); 3] = [
-        ("", LdtFault::Short { line: 1 }),
-        ("Example\n2\n3\n6\n", LdtFault::PlaneCount),
-        ("Example\n2\n3\n4\n90\n1\n", LdtFault::GammaCount),
-    ];
-    for (text, expected) in rows {
-        assert_eq!(rt; read_ldt(alloc, text.as_bytes()).err(), Some(expected));
     }
     Ok(())
 }
