@@ -1,5 +1,5 @@
 -- The lines of an EULUMDAT text by their number, which counts from 1.
-use Rattle.std.specs.Prelude.{ℕ, ◌+◌, ◌-◌, ◌==◌, Bool, Option, Some, None, Result, Ok, Err, List, [], ◌∷◌, length, map, drop, slice_get, slice_set, position, is_some, pos, false}
+use Rattle.std.specs.Prelude.{ℕ, ◌+◌, ◌-◌, ◌==◌, Bool, Option, Some, None, Result, Ok, Err, List, [], ◌∷◌, length, map, drop, slice_get, slice_set, position, is_some}
 use Rattle.duties.specs.Duties.{Duty, unless, first, each}
 use Rattle.lux_lines.specs.Places.{Piece}
 use Rattle.lux_lines.specs.Lines.{lines}
@@ -8,16 +8,13 @@ use Rattle.lux_lines.specs.Ends.{trimmed}
 use Rattle.lux_num.specs.declared.decimal.Decimal.{Decimal}
 use Rattle.lux_num.specs.declared.decimal.NumFault.{NumFault}
 use Rattle.lux_num.specs.Decimal.{number_of}
+use Rattle.photo_numbers.specs.Numbers.{zero_number}
 use Rattle.eulumdat_reader.specs.declared.faults.LdtFault.{LdtFault}
 use Rattle.eulumdat_reader.specs.declared.faults.LdtFault.TheVariants.{Short, Number, Trailing}
 
 -- all lines of a text of which some were read
 abbrev pub all_lines : LinesRead → List Piece
 all_lines source = lines source.text
-
--- the number that stands where none is
-abbrev pub zero_number : Decimal
-zero_number = record { negative = false; mantissa = 0; exponent = pos 0 }
 
 abbrev pub is_comma : ℕ → Bool
 is_comma byte = byte == 44

@@ -19,11 +19,6 @@ sum-parts_by n c x =
     let downs : sum_below n (λ i. down (pos (c i) *ℤ x i)) ≡ sum_below n (λ i. c i * down (x i)) = sum-same n _ _ (λ i h. omega (arith, product_is (pos (c i)) (x i))) in
     omega arith
 
--- one of the two parts is 0
-pub one_part : (z : ℤ) → up z * down z ≡ 0
-one_part (pos n) = omega arith
-one_part (negsuc n) = omega arith
-
 pub is_pos : (z : ℤ) → down z ≡ 0 → z ≡ pos (up z)
 is_pos (pos n) e = refl
 is_pos (negsuc n) e = absurd (omega arith)

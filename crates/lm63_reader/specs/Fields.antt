@@ -1,16 +1,13 @@
 -- The numbers behind the TILT line, by their place.
-use Rattle.std.specs.Prelude.{ℕ, ◌+◌, Option, Some, None, Result, Ok, Err, List, [], ◌∷◌, length, slice_get, pos, false}
+use Rattle.std.specs.Prelude.{ℕ, ◌+◌, Option, Some, None, Result, Ok, Err, List, [], ◌∷◌, length, slice_get}
 use Rattle.duties.specs.Duties.{Duty, first, each}
 use Rattle.lux_lines.specs.Places.{Piece}
 use Rattle.lux_num.specs.declared.decimal.Decimal.{Decimal}
 use Rattle.lux_num.specs.declared.decimal.NumFault.{NumFault}
 use Rattle.lux_num.specs.Decimal.{number_of}
+use Rattle.photo_numbers.specs.Numbers.{zero_number}
 use Rattle.lm63_reader.specs.declared.faults.LmFault.{LmFault}
 use Rattle.lm63_reader.specs.declared.faults.LmFault.TheVariants.{Short, Number, Trailing}
-
--- the number that stands where none is
-abbrev pub zero_number : Decimal
-zero_number = record { negative = false; mantissa = 0; exponent = pos 0 }
 
 -- the number that a token is; zero where it is none
 unfoldable pub token_number : Piece → Decimal

@@ -1,7 +1,11 @@
 -- The limits that photometry files of all formats share: counts, which are whole numbers, and angles.
-use Rattle.std.specs.Prelude.{ℕ, ◌&&◌, not, nat_le, Bool, is_some, unwrap_or}
+use Rattle.std.specs.Prelude.{ℕ, ◌&&◌, not, nat_le, Bool, is_some, unwrap_or, pos, false}
 use Rattle.lux_num.specs.declared.decimal.Decimal.{Decimal}
 use Rattle.lux_num.specs.Scaled.{cut, whole, is_negative}
+
+-- the number that stands where none is
+abbrev pub zero_number : Decimal
+zero_number = record { negative = false; mantissa = 0; exponent = pos 0 }
 
 -- what a number counts: the whole number that it is, 0 where it is none
 abbrev pub count_of : Decimal → ℕ
