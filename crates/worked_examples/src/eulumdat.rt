@@ -13,6 +13,256 @@ const LINES: [&str; 54] = [
     "0", "100", "10", "50", "5",
 ];
 
+// Lines by their number, each with a text and the fault that it is.
+const FAULTY: [(usize, &str, LdtFault); 59] = [
+    (
+        3,
+        "",
+        LdtFault::Number {
+            line: 3,
+            fault: NumFault::Empty,
+        },
+    ),
+    (3, "5", LdtFault::Symmetry),
+    (3, "-1", LdtFault::Symmetry),
+    (3, "1.5", LdtFault::Symmetry),
+    (
+        3,
+        "x",
+        LdtFault::Number {
+            line: 3,
+            fault: NumFault::BadByte { at: 0 },
+        },
+    ),
+    (
+        3,
+        "3 3",
+        LdtFault::Number {
+            line: 3,
+            fault: NumFault::BadByte { at: 1 },
+        },
+    ),
+    (4, "0", LdtFault::PlaneCount),
+    (4, "6", LdtFault::PlaneCount),
+    (4, "2", LdtFault::PlaneCount),
+    (4, "361", LdtFault::PlaneCount),
+    (4, "364", LdtFault::PlaneCount),
+    (4, "4.5", LdtFault::PlaneCount),
+    (4, "-4", LdtFault::PlaneCount),
+    (
+        4,
+        "four",
+        LdtFault::Number {
+            line: 4,
+            fault: NumFault::BadByte { at: 0 },
+        },
+    ),
+    (6, "1", LdtFault::GammaCount),
+    (6, "722", LdtFault::GammaCount),
+    (6, "2.1", LdtFault::GammaCount),
+    (
+        6,
+        "",
+        LdtFault::Number {
+            line: 6,
+            fault: NumFault::Empty,
+        },
+    ),
+    (24, "-0.1", LdtFault::Factor { line: 24 }),
+    (24, "1000.0000000001", LdtFault::Factor { line: 24 }),
+    (
+        24,
+        "x",
+        LdtFault::Number {
+            line: 24,
+            fault: NumFault::BadByte { at: 0 },
+        },
+    ),
+    (26, "0", LdtFault::LampSets { n: 0 }),
+    (26, "2", LdtFault::LampSets { n: 2 }),
+    (26, "-1", LdtFault::LampSets { n: 1 }),
+    (26, "2.9", LdtFault::LampSets { n: 2 }),
+    (26, "1.5", LdtFault::LampSets { n: 1 }),
+    (
+        26,
+        "99999999999999999999",
+        LdtFault::LampSets {
+            n: 18_446_744_073_709_551_615,
+        },
+    ),
+    (
+        26,
+        "1e99",
+        LdtFault::LampSets {
+            n: 18_446_744_073_709_551_615,
+        },
+    ),
+    (
+        26,
+        "",
+        LdtFault::Number {
+            line: 26,
+            fault: NumFault::Empty,
+        },
+    ),
+    (29, "-1", LdtFault::Factor { line: 29 }),
+    (
+        29,
+        "1e8.0",
+        LdtFault::Number {
+            line: 29,
+            fault: NumFault::Exponent,
+        },
+    ),
+    (29, "100000000.01", LdtFault::Factor { line: 29 }),
+    (
+        29,
+        "3.600,5",
+        LdtFault::Number {
+            line: 29,
+            fault: NumFault::BadByte { at: 5 },
+        },
+    ),
+    (
+        29,
+        "3,600.5",
+        LdtFault::Number {
+            line: 29,
+            fault: NumFault::BadByte { at: 5 },
+        },
+    ),
+    (
+        29,
+        "3600 lm",
+        LdtFault::Number {
+            line: 29,
+            fault: NumFault::BadByte { at: 4 },
+        },
+    ),
+    (43, "-90", LdtFault::Angles { list: 0, at: 0 }),
+    (43, "1", LdtFault::Span),
+    (
+        43,
+        "+",
+        LdtFault::Number {
+            line: 43,
+            fault: NumFault::Empty,
+        },
+    ),
+    (44, "80", LdtFault::Span),
+    (44, "0", LdtFault::Angles { list: 0, at: 1 }),
+    (44, "360.001", LdtFault::Angles { list: 0, at: 1 }),
+    (46, "89", LdtFault::Angles { list: 0, at: 3 }),
+    (46, "269", LdtFault::Span),
+    (46, "360", LdtFault::Span),
+    (46, "361", LdtFault::Angles { list: 0, at: 3 }),
+    (47, "-0.001", LdtFault::Angles { list: 1, at: 0 }),
+    (47, "90", LdtFault::Angles { list: 1, at: 1 }),
+    (48, "0.0009", LdtFault::Angles { list: 1, at: 1 }),
+    (48, "180.001", LdtFault::Angles { list: 1, at: 1 }),
+    (
+        48,
+        "ninety",
+        LdtFault::Number {
+            line: 48,
+            fault: NumFault::BadByte { at: 0 },
+        },
+    ),
+    (49, "-1", LdtFault::NegativeIntensity { at: 0 }),
+    (49, "10000000.0000000001", LdtFault::TooBright { at: 0 }),
+    (
+        49,
+        "1,2,3",
+        LdtFault::Number {
+            line: 49,
+            fault: NumFault::BadByte { at: 3 },
+        },
+    ),
+    (
+        50,
+        "",
+        LdtFault::Number {
+            line: 50,
+            fault: NumFault::Empty,
+        },
+    ),
+    (
+        50,
+        "1234567890123456789012345678901",
+        LdtFault::Number {
+            line: 50,
+            fault: NumFault::TooManyDigits,
+        },
+    ),
+    (
+        53,
+        "1e",
+        LdtFault::Number {
+            line: 53,
+            fault: NumFault::Exponent,
+        },
+    ),
+    (
+        54,
+        "5 5",
+        LdtFault::Number {
+            line: 54,
+            fault: NumFault::BadByte { at: 1 },
+        },
+    ),
+    (55, "7", LdtFault::Trailing { line: 55 }),
+    (55, "\x1a7", LdtFault::Trailing { line: 55 }),
+];
+
+// Lines by their number, each with a text, and the values of the planes at 0 and at 270 degrees in microcandela.
+const ODD: [(usize, &str, [u64; 2], [u64; 2]); 25] = [
+    (3, "3.0", [360_000_000, 36_000_000], [901_800_000, 0]),
+    (3, " \t3 ", [360_000_000, 36_000_000], [901_800_000, 0]),
+    (4, "4,0", [360_000_000, 36_000_000], [901_800_000, 0]),
+    (6, "+2", [360_000_000, 36_000_000], [901_800_000, 0]),
+    (24, "0,3333333", [119_999_880, 11_999_988], [300_599_699, 0]),
+    (
+        24,
+        "1000",
+        [360_000_000_000, 36_000_000_000],
+        [901_800_000_000, 0],
+    ),
+    (24, "0", [0, 0], [0, 0]),
+    (26, "1.0", [360_000_000, 36_000_000], [901_800_000, 0]),
+    (26, "10e-1", [360_000_000, 36_000_000], [901_800_000, 0]),
+    (29, "0", [0, 0], [0, 0]),
+    (
+        29,
+        "277778",
+        [27_777_800_000, 2_777_780_000],
+        [69_583_389_000, 0],
+    ),
+    (45, "x", [360_000_000, 36_000_000], [901_800_000, 0]),
+    (45, "", [360_000_000, 36_000_000], [901_800_000, 0]),
+    (43, "-0", [360_000_000, 36_000_000], [901_800_000, 0]),
+    (43, "0.0009", [360_000_000, 36_000_000], [901_800_000, 0]),
+    (44, "90.0009", [360_000_000, 36_000_000], [901_800_000, 0]),
+    (46, "270.0004", [360_000_000, 36_000_000], [901_800_000, 0]),
+    (48, "180", [360_000_000, 36_000_000], [901_800_000, 0]),
+    (48, "0.001", [360_000_000, 36_000_000], [901_800_000, 0]),
+    (49, "-0", [360_000_000, 36_000_000], [0, 0]),
+    (49, "1E2", [360_000_000, 36_000_000], [360_000_000, 0]),
+    (
+        49,
+        "1e7",
+        [360_000_000, 36_000_000],
+        [36_000_000_000_000, 0],
+    ),
+    (49, "0.0000000009", [360_000_000, 36_000_000], [0, 0]),
+    (
+        50,
+        "\t7,5\t",
+        [360_000_000, 36_000_000],
+        [901_800_000, 27_000_000],
+    ),
+    (55, " \t", [360_000_000, 36_000_000], [901_800_000, 0]),
+];
+
 // The bytes that a test reads at most.
 const MOST_BYTES: usize = 10_000;
 
@@ -65,206 +315,7 @@ fn a_cut_file_lacks_its_next_line(rt: HostRuntime) -> Result<(), Fail> {
 #[test]
 fn a_faulty_line_has_its_fault(rt: HostRuntime) -> Result<(), Fail> {
     let alloc = rt.alloc();
-    let rows: [(usize, &str, LdtFault); 59] = [
-        (
-            3,
-            "",
-            LdtFault::Number {
-                line: 3,
-                fault: NumFault::Empty,
-            },
-        ),
-        (3, "5", LdtFault::Symmetry),
-        (3, "-1", LdtFault::Symmetry),
-        (3, "1.5", LdtFault::Symmetry),
-        (
-            3,
-            "x",
-            LdtFault::Number {
-                line: 3,
-                fault: NumFault::BadByte { at: 0 },
-            },
-        ),
-        (
-            3,
-            "3 3",
-            LdtFault::Number {
-                line: 3,
-                fault: NumFault::BadByte { at: 1 },
-            },
-        ),
-        (4, "0", LdtFault::PlaneCount),
-        (4, "6", LdtFault::PlaneCount),
-        (4, "2", LdtFault::PlaneCount),
-        (4, "361", LdtFault::PlaneCount),
-        (4, "364", LdtFault::PlaneCount),
-        (4, "4.5", LdtFault::PlaneCount),
-        (4, "-4", LdtFault::PlaneCount),
-        (
-            4,
-            "four",
-            LdtFault::Number {
-                line: 4,
-                fault: NumFault::BadByte { at: 0 },
-            },
-        ),
-        (6, "1", LdtFault::GammaCount),
-        (6, "722", LdtFault::GammaCount),
-        (6, "2.1", LdtFault::GammaCount),
-        (
-            6,
-            "",
-            LdtFault::Number {
-                line: 6,
-                fault: NumFault::Empty,
-            },
-        ),
-        (24, "-0.1", LdtFault::Factor { line: 24 }),
-        (24, "1000.0000000001", LdtFault::Factor { line: 24 }),
-        (
-            24,
-            "x",
-            LdtFault::Number {
-                line: 24,
-                fault: NumFault::BadByte { at: 0 },
-            },
-        ),
-        (26, "0", LdtFault::LampSets { n: 0 }),
-        (26, "2", LdtFault::LampSets { n: 2 }),
-        (26, "-1", LdtFault::LampSets { n: 1 }),
-        (26, "2.9", LdtFault::LampSets { n: 2 }),
-        (26, "1.5", LdtFault::LampSets { n: 1 }),
-        (
-            26,
-            "99999999999999999999",
-            LdtFault::LampSets {
-                n: 18_446_744_073_709_551_615,
-            },
-        ),
-        (
-            26,
-            "1e99",
-            LdtFault::LampSets {
-                n: 18_446_744_073_709_551_615,
-            },
-        ),
-        (
-            26,
-            "",
-            LdtFault::Number {
-                line: 26,
-                fault: NumFault::Empty,
-            },
-        ),
-        (29, "-1", LdtFault::Factor { line: 29 }),
-        (
-            29,
-            "1e8.0",
-            LdtFault::Number {
-                line: 29,
-                fault: NumFault::Exponent,
-            },
-        ),
-        (29, "100000000.01", LdtFault::Factor { line: 29 }),
-        (
-            29,
-            "3.600,5",
-            LdtFault::Number {
-                line: 29,
-                fault: NumFault::BadByte { at: 5 },
-            },
-        ),
-        (
-            29,
-            "3,600.5",
-            LdtFault::Number {
-                line: 29,
-                fault: NumFault::BadByte { at: 5 },
-            },
-        ),
-        (
-            29,
-            "3600 lm",
-            LdtFault::Number {
-                line: 29,
-                fault: NumFault::BadByte { at: 4 },
-            },
-        ),
-        (43, "-90", LdtFault::Angles { list: 0, at: 0 }),
-        (43, "1", LdtFault::Span),
-        (
-            43,
-            "+",
-            LdtFault::Number {
-                line: 43,
-                fault: NumFault::Empty,
-            },
-        ),
-        (44, "80", LdtFault::Span),
-        (44, "0", LdtFault::Angles { list: 0, at: 1 }),
-        (44, "360.001", LdtFault::Angles { list: 0, at: 1 }),
-        (46, "89", LdtFault::Angles { list: 0, at: 3 }),
-        (46, "269", LdtFault::Span),
-        (46, "360", LdtFault::Span),
-        (46, "361", LdtFault::Angles { list: 0, at: 3 }),
-        (47, "-0.001", LdtFault::Angles { list: 1, at: 0 }),
-        (47, "90", LdtFault::Angles { list: 1, at: 1 }),
-        (48, "0.0009", LdtFault::Angles { list: 1, at: 1 }),
-        (48, "180.001", LdtFault::Angles { list: 1, at: 1 }),
-        (
-            48,
-            "ninety",
-            LdtFault::Number {
-                line: 48,
-                fault: NumFault::BadByte { at: 0 },
-            },
-        ),
-        (49, "-1", LdtFault::NegativeIntensity { at: 0 }),
-        (49, "10000000.0000000001", LdtFault::TooBright { at: 0 }),
-        (
-            49,
-            "1,2,3",
-            LdtFault::Number {
-                line: 49,
-                fault: NumFault::BadByte { at: 3 },
-            },
-        ),
-        (
-            50,
-            "",
-            LdtFault::Number {
-                line: 50,
-                fault: NumFault::Empty,
-            },
-        ),
-        (
-            50,
-            "1234567890123456789012345678901",
-            LdtFault::Number {
-                line: 50,
-                fault: NumFault::TooManyDigits,
-            },
-        ),
-        (
-            53,
-            "1e",
-            LdtFault::Number {
-                line: 53,
-                fault: NumFault::Exponent,
-            },
-        ),
-        (
-            54,
-            "5 5",
-            LdtFault::Number {
-                line: 54,
-                fault: NumFault::BadByte { at: 1 },
-            },
-        ),
-        (55, "7", LdtFault::Trailing { line: 55 }),
-        (55, "\x1a7", LdtFault::Trailing { line: 55 }),
-    ];
-    for (number, text, expected) in rows {
+    for (number, text, expected) in FAULTY {
         let bytes = with_line(alloc, number, text)?;
         assert_eq!(rt; read(alloc, &bytes).err(), Some(expected));
     }
@@ -274,55 +325,7 @@ fn a_faulty_line_has_its_fault(rt: HostRuntime) -> Result<(), Fail> {
 #[test]
 fn an_odd_line_is_read(rt: HostRuntime) -> Result<(), Fail> {
     let alloc = rt.alloc();
-    // A line, its text, and the values of the planes at 0 and at 270 degrees, in microcandela.
-    let rows: [(usize, &str, [u64; 2], [u64; 2]); 25] = [
-        (3, "3.0", [360_000_000, 36_000_000], [901_800_000, 0]),
-        (3, " \t3 ", [360_000_000, 36_000_000], [901_800_000, 0]),
-        (4, "4,0", [360_000_000, 36_000_000], [901_800_000, 0]),
-        (6, "+2", [360_000_000, 36_000_000], [901_800_000, 0]),
-        (24, "0,3333333", [119_999_880, 11_999_988], [300_599_699, 0]),
-        (
-            24,
-            "1000",
-            [360_000_000_000, 36_000_000_000],
-            [901_800_000_000, 0],
-        ),
-        (24, "0", [0, 0], [0, 0]),
-        (26, "1.0", [360_000_000, 36_000_000], [901_800_000, 0]),
-        (26, "10e-1", [360_000_000, 36_000_000], [901_800_000, 0]),
-        (29, "0", [0, 0], [0, 0]),
-        (
-            29,
-            "277778",
-            [27_777_800_000, 2_777_780_000],
-            [69_583_389_000, 0],
-        ),
-        (45, "x", [360_000_000, 36_000_000], [901_800_000, 0]),
-        (45, "", [360_000_000, 36_000_000], [901_800_000, 0]),
-        (43, "-0", [360_000_000, 36_000_000], [901_800_000, 0]),
-        (43, "0.0009", [360_000_000, 36_000_000], [901_800_000, 0]),
-        (44, "90.0009", [360_000_000, 36_000_000], [901_800_000, 0]),
-        (46, "270.0004", [360_000_000, 36_000_000], [901_800_000, 0]),
-        (48, "180", [360_000_000, 36_000_000], [901_800_000, 0]),
-        (48, "0.001", [360_000_000, 36_000_000], [901_800_000, 0]),
-        (49, "-0", [360_000_000, 36_000_000], [0, 0]),
-        (49, "1E2", [360_000_000, 36_000_000], [360_000_000, 0]),
-        (
-            49,
-            "1e7",
-            [360_000_000, 36_000_000],
-            [36_000_000_000_000, 0],
-        ),
-        (49, "0.0000000009", [360_000_000, 36_000_000], [0, 0]),
-        (
-            50,
-            "\t7,5\t",
-            [360_000_000, 36_000_000],
-            [901_800_000, 27_000_000],
-        ),
-        (55, " \t", [360_000_000, 36_000_000], [901_800_000, 0]),
-    ];
-    for (number, text, first, last) in rows {
+    for (number, text, first, last) in ODD {
         let bytes = with_line(alloc, number, text)?;
         let photometry = read(alloc, &bytes)?;
         assert_eq!(rt; photometry.kind, PhotoKind::Ldt);
