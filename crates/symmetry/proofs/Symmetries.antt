@@ -19,19 +19,19 @@ abbrev pub risen : List ℕ → ℕ → ℕ → ℕ → List ℕ
 risen stored from to turn = map (λ i. turn + slice_index stored (from + i)) (range_with_len 0 (to - from))
 
 abbrev pub risen_rows : ℕ → List ℕ → ℕ → ℕ → List ℕ
-risen_rows width rows from to = flat_map (λ i. row_from width rows (from + i)) (range_with_len 0 (to - from))
+risen_rows width stored_values from to = flat_map (λ i. row_from width stored_values (from + i)) (range_with_len 0 (to - from))
 
 abbrev pub fallen : List ℕ → ℕ → ℕ → ℕ → List ℕ
 fallen stored from to total = map (λ i. total - slice_index stored (to - 1 - i)) (range_with_len 0 (to - from))
 
 abbrev pub fallen_rows : ℕ → List ℕ → ℕ → ℕ → List ℕ
-fallen_rows width rows from to = flat_map (λ i. row_from width rows (to - 1 - i)) (range_with_len 0 (to - from))
+fallen_rows width stored_values from to = flat_map (λ i. row_from width stored_values (to - 1 - i)) (range_with_len 0 (to - from))
 
 -- the second of two options, where the first is nothing
 unwrapped : (o other : Option ℕ) (k : ℕ) → o ≡ None → other ≡ Some k → unwrap_or o (unwrap_or other 0) ≡ k
 unwrapped o other k none some = (λ i. unwrap_or (none i) (unwrap_or (some i) 0))
 
-module _ (stored : List ℕ) (up : IsStrictlyIncreasing stored) (rows : List ℕ) (width : ℕ) where
+module _ (stored : List ℕ) (up : IsStrictlyIncreasing stored) (stored_values : List ℕ) (width : ℕ) where
   -- a half turn and its mirror image
   module _ (span : has_span Plane0 stored ≡ true) where
     start0 : slice_index stored 0 ≡ 0
@@ -52,17 +52,17 @@ module _ (stored : List ℕ) (up : IsStrictlyIncreasing stored) (rows : List ℕ
     back0 : TellsBack Plane0 stored 180000 360000 (λ a. 360000 - a)
     back0 = record { only = λ a j l h i. plane0_second (slice_index stored j) a (most0 j i) l h }
 
-    pub plane0_grown : (p v p1 v1 p2 v2 : List ℕ) → p1 ≡ p ++ risen stored 0 (length stored) 0 → v1 ≡ v ++ risen_rows width rows 0 (length stored) → p2 ≡ p1 ++ fallen stored 0 (length stored - 1) 360000 → v2 ≡ v1 ++ fallen_rows width rows 0 (length stored - 1) → IsGrown 0 Plane0 stored rows width p v → IsGrown 360001 Plane0 stored rows width p2 v2
+    pub plane0_grown : (p v p1 v1 p2 v2 : List ℕ) → p1 ≡ p ++ risen stored 0 (length stored) 0 → v1 ≡ v ++ risen_rows width stored_values 0 (length stored) → p2 ≡ p1 ++ fallen stored 0 (length stored - 1) 360000 → v2 ≡ v1 ++ fallen_rows width stored_values 0 (length stored - 1) → IsGrown 0 Plane0 stored stored_values width p v → IsGrown 360001 Plane0 stored stored_values width p2 v2
     plane0_grown p v p1 v1 p2 v2 e1 f1 e2 f2 grown =
         let s = start0 in
         let e = end0 in
         let two = two0 in
         let turn = rising_lt stored up (length stored - 1 - 1) (length stored - 1) (omega arith) (omega arith) in
-        falls Plane0 stored up rows width 180000 360000 360000 back0 (omega arith) 0 (length stored - 1) (omega arith) (λ k h. let m = most0 k (omega arith) in omega arith) (λ _. omega arith) (λ _. omega arith)
+        falls Plane0 stored up stored_values width 180000 360000 360000 back0 (omega arith) 0 (length stored - 1) (omega arith) (λ k h. let m = most0 k (omega arith) in omega arith) (λ _. omega arith) (λ _. omega arith)
         180001 360001 p1 v1 p2 v2 (λ _. omega arith)
         (λ a _ l h. gap Plane0 stored up 180000 360000 (λ a. 360000 - a) back0 a (length stored - 1 - 1) (omega arith) (omega arith) (omega arith) (omega arith) (omega arith) (let at : (length stored - 1 - 1) + 1 ≡ length stored - 1 = omega arith in let same = ap (slice_index stored) at in omega arith))
         (λ _. omega arith) (λ h. absurd (omega arith)) e2 f2
-        (rises Plane0 stored up rows width 0 180000 0 forth0 (omega arith) 0 (length stored) (omega arith) (omega arith) (omega arith) (omega arith)
+        (rises Plane0 stored up stored_values width 0 180000 0 forth0 (omega arith) 0 (length stored) (omega arith) (omega arith) (omega arith) (omega arith)
         0 180001 p v p1 v1 (omega arith) (λ a l h. absurd (omega arith)) (omega arith) e1 f1 grown)
 
   -- a quarter turn and its three mirror images
@@ -97,21 +97,21 @@ module _ (stored : List ℕ) (up : IsStrictlyIncreasing stored) (rows : List ℕ
     next_q : slice_index stored ((length stored - 1 - 1) + 1) ≡ 90000
     next_q = let two = two_q in ap (slice_index stored) (let at : (length stored - 1 - 1) + 1 ≡ length stored - 1 = omega arith in at) ∙ end_q
 
-    half_q : (p v p1 v1 p2 v2 : List ℕ) → p1 ≡ p ++ risen stored 0 (length stored) 0 → v1 ≡ v ++ risen_rows width rows 0 (length stored) → p2 ≡ p1 ++ fallen stored 0 (length stored - 1) 180000 → v2 ≡ v1 ++ fallen_rows width rows 0 (length stored - 1) → IsGrown 0 Quadrant stored rows width p v → IsGrown 180001 Quadrant stored rows width p2 v2
+    half_q : (p v p1 v1 p2 v2 : List ℕ) → p1 ≡ p ++ risen stored 0 (length stored) 0 → v1 ≡ v ++ risen_rows width stored_values 0 (length stored) → p2 ≡ p1 ++ fallen stored 0 (length stored - 1) 180000 → v2 ≡ v1 ++ fallen_rows width stored_values 0 (length stored - 1) → IsGrown 0 Quadrant stored stored_values width p v → IsGrown 180001 Quadrant stored stored_values width p2 v2
     half_q p v p1 v1 p2 v2 e1 f1 e2 f2 grown =
         let s = start_q in
         let e = end_q in
         let two = two_q in
         let turn = last_q in
         let next = next_q in
-        falls Quadrant stored up rows width 90000 180000 180000 second_q (omega arith) 0 (length stored - 1) (omega arith) (λ k h. let m = most_q k (omega arith) in omega arith) (λ _. omega arith) (λ _. omega arith)
+        falls Quadrant stored up stored_values width 90000 180000 180000 second_q (omega arith) 0 (length stored - 1) (omega arith) (λ k h. let m = most_q k (omega arith) in omega arith) (λ _. omega arith) (λ _. omega arith)
         90001 180001 p1 v1 p2 v2 (λ _. omega arith)
         (λ a _ l h. gap Quadrant stored up 90000 180000 (λ a. 180000 - a) second_q a (length stored - 1 - 1) (omega arith) (omega arith) (omega arith) (omega arith) (omega arith) (omega arith))
         (λ _. omega arith) (λ h. absurd (omega arith)) e2 f2
-        (rises Quadrant stored up rows width 0 90000 0 first_q (omega arith) 0 (length stored) (omega arith) (omega arith) (omega arith) (omega arith)
+        (rises Quadrant stored up stored_values width 0 90000 0 first_q (omega arith) 0 (length stored) (omega arith) (omega arith) (omega arith) (omega arith)
         0 90001 p v p1 v1 (omega arith) (λ a l h. absurd (omega arith)) (omega arith) e1 f1 grown)
 
-    pub quadrant_grown : (p v p1 v1 p2 v2 p3 v3 p4 v4 : List ℕ) → p1 ≡ p ++ risen stored 0 (length stored) 0 → v1 ≡ v ++ risen_rows width rows 0 (length stored) → p2 ≡ p1 ++ fallen stored 0 (length stored - 1) 180000 → v2 ≡ v1 ++ fallen_rows width rows 0 (length stored - 1) → p3 ≡ p2 ++ risen stored 1 (length stored) 180000 → v3 ≡ v2 ++ risen_rows width rows 1 (length stored) → p4 ≡ p3 ++ fallen stored 0 (length stored - 1) 360000 → v4 ≡ v3 ++ fallen_rows width rows 0 (length stored - 1) → IsGrown 0 Quadrant stored rows width p v → IsGrown 360001 Quadrant stored rows width p4 v4
+    pub quadrant_grown : (p v p1 v1 p2 v2 p3 v3 p4 v4 : List ℕ) → p1 ≡ p ++ risen stored 0 (length stored) 0 → v1 ≡ v ++ risen_rows width stored_values 0 (length stored) → p2 ≡ p1 ++ fallen stored 0 (length stored - 1) 180000 → v2 ≡ v1 ++ fallen_rows width stored_values 0 (length stored - 1) → p3 ≡ p2 ++ risen stored 1 (length stored) 180000 → v3 ≡ v2 ++ risen_rows width stored_values 1 (length stored) → p4 ≡ p3 ++ fallen stored 0 (length stored - 1) 360000 → v4 ≡ v3 ++ fallen_rows width stored_values 0 (length stored - 1) → IsGrown 0 Quadrant stored stored_values width p v → IsGrown 360001 Quadrant stored stored_values width p4 v4
     quadrant_grown p v p1 v1 p2 v2 p3 v3 p4 v4 e1 f1 e2 f2 e3 f3 e4 f4 grown =
         let s = start_q in
         let e = end_q in
@@ -120,11 +120,11 @@ module _ (stored : List ℕ) (up : IsStrictlyIncreasing stored) (rows : List ℕ
         let next = next_q in
         let second = rising_lt stored up 0 1 (omega arith) (omega arith) in
         let most1 = most_q 1 (omega arith) in
-        falls Quadrant stored up rows width 270000 360000 360000 fourth_q (omega arith) 0 (length stored - 1) (omega arith) (λ k h. let m = most_q k (omega arith) in omega arith) (λ _. omega arith) (λ _. omega arith)
+        falls Quadrant stored up stored_values width 270000 360000 360000 fourth_q (omega arith) 0 (length stored - 1) (omega arith) (λ k h. let m = most_q k (omega arith) in omega arith) (λ _. omega arith) (λ _. omega arith)
         270001 360001 p3 v3 p4 v4 (λ _. omega arith)
         (λ a _ l h. gap Quadrant stored up 270000 360000 (λ a. 360000 - a) fourth_q a (length stored - 1 - 1) (omega arith) (omega arith) (omega arith) (omega arith) (omega arith) (omega arith))
         (λ _. omega arith) (λ h. absurd (omega arith)) e4 f4
-        (rises Quadrant stored up rows width 180000 270000 180000 third_q (omega arith) 1 (length stored) (omega arith) (omega arith) (omega arith) (omega arith)
+        (rises Quadrant stored up stored_values width 180000 270000 180000 third_q (omega arith) 1 (length stored) (omega arith) (omega arith) (omega arith) (omega arith)
         180001 270001 p2 v2 p3 v3 (omega arith)
         (λ a l h. gap Quadrant stored up 180000 270000 (λ a. a - 180000) third_q a 0 (omega arith) (omega arith) (omega arith) (omega arith) (omega arith) (omega arith))
         (omega arith) e3 f3 (half_q p v p1 v1 p2 v2 e1 f1 e2 f2 grown))
@@ -146,15 +146,15 @@ module _ (stored : List ℕ) (up : IsStrictlyIncreasing stored) (rows : List ℕ
     high_a : TellsBack Axis stored 360000 360000 (λ _. 0)
     high_a = record { only = λ a j l h i. let e = all_a j i in rw e (grind (arith, nat_tests)) }
 
-    pub axis_grown : (p v p1 v1 p2 v2 : List ℕ) → p1 ≡ p ++ 0 ∷ [] → v1 ≡ v ++ row_from width rows 0 → p2 ≡ p1 ++ 360000 ∷ [] → v2 ≡ v1 ++ row_from width rows 0 → IsGrown 0 Axis stored rows width p v → IsGrown 360001 Axis stored rows width p2 v2
+    pub axis_grown : (p v p1 v1 p2 v2 : List ℕ) → p1 ≡ p ++ 0 ∷ [] → v1 ≡ v ++ row_from width stored_values 0 → p2 ≡ p1 ++ 360000 ∷ [] → v2 ≡ v1 ++ row_from width stored_values 0 → IsGrown 0 Axis stored stored_values width p v → IsGrown 360001 Axis stored stored_values width p2 v2
     axis_grown p v p1 v1 p2 v2 e1 f1 e2 f2 grown =
         let one = one_a in
         let zero_is = all_a 0 (omega arith) in
-        grown_hit Axis stored rows width 360000 0 p1 v1 p2 v2
+        grown_hit Axis stored stored_values width 360000 0 p1 v1 p2 v2
         (hit_plane Axis stored up 360000 360000 (λ _. 0) high_a 360000 0 (omega arith) (omega arith) (omega arith) (sym zero_is))
         (hit_place Axis stored up 360000 360000 (λ _. 0) high_a 360000 0 (omega arith) (omega arith) (omega arith) (sym zero_is)) e2 f2
-        (grown_skip Axis stored rows width 1 360000 p1 v1 (omega arith) (λ a l h. miss Axis stored up 1 359999 (λ _. 1) between_a a l (omega arith) h (λ j i same. let z = all_a j i in omega arith))
-        (grown_hit Axis stored rows width 0 0 p v p1 v1
+        (grown_skip Axis stored stored_values width 1 360000 p1 v1 (omega arith) (λ a l h. miss Axis stored up 1 359999 (λ _. 1) between_a a l (omega arith) h (λ j i same. let z = all_a j i in omega arith))
+        (grown_hit Axis stored stored_values width 0 0 p v p1 v1
         (hit_plane Axis stored up 0 0 (λ a. a) low_a 0 0 (omega arith) (omega arith) (omega arith) (sym zero_is))
         (hit_place Axis stored up 0 0 (λ a. a) low_a 0 0 (omega arith) (omega arith) (omega arith) (sym zero_is)) e1 f1 grown))
 
@@ -172,20 +172,20 @@ module _ (stored : List ℕ) (up : IsStrictlyIncreasing stored) (rows : List ℕ
     all_f : TellsBack Full stored 0 360000 (λ a. a - 0)
     all_f = record { only = λ a j l h i. full (slice_index stored j) a }
 
-    pub full_risen : (m : ℕ) (p v p1 v1 : List ℕ) → m ≡ slice_index stored (length stored - 1) + 1 → p1 ≡ p ++ risen stored 0 (length stored) 0 → v1 ≡ v ++ risen_rows width rows 0 (length stored) → IsGrown 0 Full stored rows width p v → IsGrown m Full stored rows width p1 v1
+    pub full_risen : (m : ℕ) (p v p1 v1 : List ℕ) → m ≡ slice_index stored (length stored - 1) + 1 → p1 ≡ p ++ risen stored 0 (length stored) 0 → v1 ≡ v ++ risen_rows width stored_values 0 (length stored) → IsGrown 0 Full stored stored_values width p v → IsGrown m Full stored stored_values width p1 v1
     full_risen m p v p1 v1 end e1 f1 grown =
         let s = start_f in
         let most = most_f (length stored - 1) (omega arith) in
-        rises Full stored up rows width 0 360000 0 all_f (omega arith) 0 (length stored) some (omega arith) (omega arith) (omega arith)
+        rises Full stored up stored_values width 0 360000 0 all_f (omega arith) 0 (length stored) some (omega arith) (omega arith) (omega arith)
         0 m p v p1 v1 (omega arith) (λ a l h. absurd (omega arith)) (omega arith) e1 f1 grown
 
-    pub full_closed : slice_index stored (length stored - 1) < 360000 → (p v p1 v1 p2 v2 : List ℕ) → p1 ≡ p ++ risen stored 0 (length stored) 0 → v1 ≡ v ++ risen_rows width rows 0 (length stored) → p2 ≡ p1 ++ 360000 ∷ [] → v2 ≡ v1 ++ row_from width rows 0 → IsGrown 0 Full stored rows width p v → IsGrown 360001 Full stored rows width p2 v2
+    pub full_closed : slice_index stored (length stored - 1) < 360000 → (p v p1 v1 p2 v2 : List ℕ) → p1 ≡ p ++ risen stored 0 (length stored) 0 → v1 ≡ v ++ risen_rows width stored_values 0 (length stored) → p2 ≡ p1 ++ 360000 ∷ [] → v2 ≡ v1 ++ row_from width stored_values 0 → IsGrown 0 Full stored stored_values width p v → IsGrown 360001 Full stored stored_values width p2 v2
     full_closed ends p v p1 v1 p2 v2 e1 f1 e2 f2 grown =
         let s = start_f in
-        grown_hit Full stored rows width 360000 0 p1 v1 p2 v2 (closes Full stored)
+        grown_hit Full stored stored_values width 360000 0 p1 v1 p2 v2 (closes Full stored)
         (unwrapped (source Full stored 360000) (source Full stored 0) 0 (position_none _ stored (λ j h. let le = rising_le stored up j (length stored - 1) (omega arith) (omega arith) in full (slice_index stored j) 360000 ∙ ne_eqb _ _ (λ same. omega arith)))
         (hit_source Full stored up 0 360000 (λ a. a - 0) all_f 0 0 (omega arith) (omega arith) (omega arith) (omega arith))) e2 f2
-        (grown_skip Full stored rows width (slice_index stored (length stored - 1) + 1) 360000 p1 v1 (omega arith)
+        (grown_skip Full stored stored_values width (slice_index stored (length stored - 1) + 1) 360000 p1 v1 (omega arith)
         (λ a l h. miss Full stored up 0 360000 (λ a. a - 0) all_f a (omega arith) (omega arith) h (λ j i same. let le = rising_le stored up j (length stored - 1) (omega arith) (omega arith) in omega arith))
         (full_risen (slice_index stored (length stored - 1) + 1) p v p1 v1 refl e1 f1 grown))
 
@@ -234,7 +234,7 @@ module _ (stored : List ℕ) (up : IsStrictlyIncreasing stored) (rows : List ℕ
       next_h = let two = two_h in ap (slice_index stored) (let at : (length stored - 1 - 1) + 1 ≡ length stored - 1 = omega arith in at) ∙ end_h
 
       -- up to 270 degrees
-      most_of_turn : (p v p1 v1 p2 v2 : List ℕ) → p1 ≡ p ++ fallen stored 1 (half + 1) 180000 → v1 ≡ v ++ fallen_rows width rows 1 (half + 1) → p2 ≡ p1 ++ risen stored 0 (length stored) 0 → v2 ≡ v1 ++ risen_rows width rows 0 (length stored) → IsGrown 0 Plane90 stored rows width p v → IsGrown 270001 Plane90 stored rows width p2 v2
+      most_of_turn : (p v p1 v1 p2 v2 : List ℕ) → p1 ≡ p ++ fallen stored 1 (half + 1) 180000 → v1 ≡ v ++ fallen_rows width stored_values 1 (half + 1) → p2 ≡ p1 ++ risen stored 0 (length stored) 0 → v2 ≡ v1 ++ risen_rows width stored_values 0 (length stored) → IsGrown 0 Plane90 stored stored_values width p v → IsGrown 270001 Plane90 stored stored_values width p2 v2
       most_of_turn p v p1 v1 p2 v2 e1 f1 e2 f2 grown =
           let s = start_h in
           let e = end_h in
@@ -244,11 +244,11 @@ module _ (stored : List ℕ) (up : IsStrictlyIncreasing stored) (rows : List ℕ
           let second = rising_lt stored up 0 1 (omega arith) (omega arith) in
           let one_low = to_half 1 (omega arith) in
           let top : slice_index stored (half + 1 - 1) ≡ 180000 = ap (slice_index stored) (let at : half + 1 - 1 ≡ half = omega arith in at) ∙ half_is in
-          rises Plane90 stored up rows width 90000 270000 0 second_h (omega arith) 0 (length stored) (omega arith) (omega arith) (omega arith) (omega arith)
+          rises Plane90 stored up stored_values width 90000 270000 0 second_h (omega arith) 0 (length stored) (omega arith) (omega arith) (omega arith) (omega arith)
           (180000 - slice_index stored 1 + 1) 270001 p1 v1 p2 v2 (omega arith)
           (λ a l h. gap Plane90 stored up 0 90000 (λ a. 180000 - a) first_h a 0 (omega arith) (omega arith) (omega arith) (omega arith) (omega arith) (omega arith))
           (omega arith) e2 f2
-          (falls Plane90 stored up rows width 0 90000 180000 first_h (omega arith) 1 (half + 1) (omega arith) to_half (λ _. omega arith) (λ _. omega arith)
+          (falls Plane90 stored up stored_values width 0 90000 180000 first_h (omega arith) 1 (half + 1) (omega arith) to_half (λ _. omega arith) (λ _. omega arith)
           0 (180000 - slice_index stored 1 + 1) p v p1 v1 (λ _. omega arith) (λ a _ l h. absurd (omega arith)) (λ _. refl) (λ h. absurd (omega arith)) e1 f1 grown)
 
       -- a full turn is no image, and plane 0 is that of half a turn
@@ -258,7 +258,7 @@ module _ (stored : List ℕ) (up : IsStrictlyIncreasing stored) (rows : List ℕ
           (position_none _ stored (λ j h. plane90_end (slice_index stored j) 360000 (least_h j h) (most_h j h) refl))
           (hit_source Plane90 stored up 0 90000 (λ a. 180000 - a) first_h 0 half (omega arith) (omega arith) inside (sym half_is))
 
-      pub plane90_grown : (p v p1 v1 p2 v2 p3 v3 p4 v4 : List ℕ) → p1 ≡ p ++ fallen stored 1 (half + 1) 180000 → v1 ≡ v ++ fallen_rows width rows 1 (half + 1) → p2 ≡ p1 ++ risen stored 0 (length stored) 0 → v2 ≡ v1 ++ risen_rows width rows 0 (length stored) → p3 ≡ p2 ++ fallen stored (half + 1) (length stored - 1) 540000 → v3 ≡ v2 ++ fallen_rows width rows (half + 1) (length stored - 1) → p4 ≡ p3 ++ 360000 ∷ [] → v4 ≡ v3 ++ row_from width rows half → IsGrown 0 Plane90 stored rows width p v → IsGrown 360001 Plane90 stored rows width p4 v4
+      pub plane90_grown : (p v p1 v1 p2 v2 p3 v3 p4 v4 : List ℕ) → p1 ≡ p ++ fallen stored 1 (half + 1) 180000 → v1 ≡ v ++ fallen_rows width stored_values 1 (half + 1) → p2 ≡ p1 ++ risen stored 0 (length stored) 0 → v2 ≡ v1 ++ risen_rows width stored_values 0 (length stored) → p3 ≡ p2 ++ fallen stored (half + 1) (length stored - 1) 540000 → v3 ≡ v2 ++ fallen_rows width stored_values (half + 1) (length stored - 1) → p4 ≡ p3 ++ 360000 ∷ [] → v4 ≡ v3 ++ row_from width stored_values half → IsGrown 0 Plane90 stored stored_values width p v → IsGrown 360001 Plane90 stored stored_values width p4 v4
       plane90_grown p v p1 v1 p2 v2 p3 v3 p4 v4 e1 f1 e2 f2 e3 f3 e4 f4 grown =
           let s = start_h in
           let e = end_h in
@@ -268,10 +268,10 @@ module _ (stored : List ℕ) (up : IsStrictlyIncreasing stored) (rows : List ℕ
           let next = next_h in
           let past = rising_lt stored up half (half + 1) (omega arith) (omega arith) in
           let past_most = most_h (half + 1) (omega arith) in
-          grown_hit Plane90 stored rows width 360000 half p3 v3 p4 v4 (closes Plane90 stored) closing e4 f4
-          (grown_skip Plane90 stored rows width (540000 - slice_index stored (half + 1) + 1) 360000 p3 v3 (omega arith)
+          grown_hit Plane90 stored stored_values width 360000 half p3 v3 p4 v4 (closes Plane90 stored) closing e4 f4
+          (grown_skip Plane90 stored stored_values width (540000 - slice_index stored (half + 1) + 1) 360000 p3 v3 (omega arith)
           (λ a l h. gap Plane90 stored up 270000 359999 (λ a. 540000 - a) third_h a half (omega arith) (omega arith) h (omega arith) (omega arith) (omega arith))
-          (falls Plane90 stored up rows width 270000 359999 540000 third_h (omega arith) (half + 1) (length stored - 1) (omega arith) (λ k h. let m = most_h k (omega arith) in omega arith) (λ _. omega arith) (λ _. omega arith)
+          (falls Plane90 stored up stored_values width 270000 359999 540000 third_h (omega arith) (half + 1) (length stored - 1) (omega arith) (λ k h. let m = most_h k (omega arith) in omega arith) (λ _. omega arith) (λ _. omega arith)
           270001 (540000 - slice_index stored (half + 1) + 1) p2 v2 p3 v3 (λ _. omega arith)
           (λ a more l h. let later = rising_lt stored up half (length stored - 1 - 1) (omega arith) (omega arith) in gap Plane90 stored up 270000 359999 (λ a. 540000 - a) third_h a (length stored - 1 - 1) (omega arith) (omega arith) (omega arith) (omega arith) (omega arith) (omega arith))
           (λ _. refl) (λ h. let at : half + 1 ≡ length stored - 1 = omega arith in let same = ap (slice_index stored) at in omega arith) e3 f3
