@@ -5,7 +5,7 @@ ghost use Rattle.lux_lines.specs.Pieces.{line_piece};
 ghost use Rattle.lux_num.specs.Scaled.{cut, is_limited};
 ghost use Rattle.photo_numbers.specs.Numbers.{count_of, is_whole_within};
 ghost use Rattle.eulumdat_reader.specs.declared.faults.LdtFault.TheVariants.{Memory};
-ghost use Rattle.eulumdat_reader.specs.Rows.{all_lines, number_at, present, numeric, field, any_rows, blank_row, only_blanks};
+ghost use Rattle.eulumdat_reader.specs.Rows.{all_lines, number_at, numeric, field, any_rows, blank_row, only_blanks};
 
 use crate::LdtFault;
 use crate::rows::Rows;

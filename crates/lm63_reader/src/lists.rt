@@ -9,7 +9,7 @@ ghost use Rattle.photo_numbers.specs.Numbers.{angle_of, is_angle};
 ghost use Rattle.symmetry.specs.Images.{has_span};
 ghost use Rattle.lm63_reader.specs.declared.faults.LmFault.TheVariants.{Memory, NegativeIntensity, TooBright};
 ghost use Rattle.lm63_reader.specs.Fields.{number_at, field};
-ghost use Rattle.lm63_reader.specs.Angles.{angle, angles, angle_duty, least_angle, span_symmetry};
+ghost use Rattle.lm63_reader.specs.Angles.{angle, angles, angle_duty, span_symmetry};
 ghost use Rattle.lm63_reader.specs.Intensities.{value_duty, intensities, intensity_of, is_intensity, microcandela};
 
 use crate::LmFault;

@@ -1,5 +1,5 @@
 -- The row of each answer of `photo`, from what was ready or refused, and from what was then put to the sinks.
-use Rattle.std.proofs.Common.{◌≡◌, ℕ, List, inl, inr, refl, sym, ap, subst, ◌∙◌, Result, Ok, Err, Some, None, IfOk, IfErr}
+use Rattle.std.proofs.Common.{◌≡◌, ℕ, List, inl, inr, refl, sym, ap, subst, ◌∙◌, Result, Ok, Err, None, IfOk, IfErr}
 use Rattle.lux_io.specs.Shelves.{ShelfState}
 use Rattle.lux_io.specs.Sinks.{Wrote, WroteSome}
 use Rattle.photo_web.specs.declared.photometry.Photometry.{Photometry}

@@ -1,7 +1,6 @@
 // The photometry text.
 ghost use Rattle.std.specs.Prelude.{◌≡◌, ◌++◌, ◌<◌, length, codes, OnOk, IfOk};
 ghost use Rattle.std.specs.List.{flat_map};
-ghost use Rattle.photo_web.specs.Web.{row_of};
 ghost use Rattle.lux_top.specs.PhotometryText.{kind_word, symmetry_word, plane_line, head_text, photometry_text};
 
 use itoa::{Buffer, Integer};

@@ -1,8 +1,6 @@
 // `solve FILE`: a system text is read, its flux settled on one thread, and what is exact enclosed.
-ghost use Rattle.std.specs.Prelude.{◌≡◌, ◌≤◌, ◌<◌, ◌^◌, length, sum, Ok, Err, None, IfOk, IfErr, OnOk};
-ghost use Rattle.duties.specs.Duties.{first};
+ghost use Rattle.std.specs.Prelude.{◌≡◌, ◌<◌, ◌^◌, length, Ok, Err, IfOk, IfErr, OnOk};
 ghost use Rattle.enclosure.specs.Interval.{IsDone, EnclosesAll};
-ghost use Rattle.flux_system.specs.Limits.{limit_duties};
 ghost use Rattle.system_file.specs.SystemText.{system_of};
 ghost use Rattle.lux_top.specs.Plans.{Takes, Gives};
 ghost use Rattle.lux_top.specs.Runs.{world, Follows};

@@ -1,4 +1,4 @@
-use Rattle.std.proofs.Common.{◌≡◌, ◌++◌, ap, ◌∙◌, List, ℕ}
+use Rattle.std.proofs.Common.{◌++◌, ap, ◌∙◌, List, ℕ}
 use Rattle.std.specs.Prelude.{codes}
 use Rattle.lux_top.specs.PhotometryText.{kind_word, symmetry_word, numbers_text}
 use Rattle.lux_top.proofs.Heads.{two_words}
