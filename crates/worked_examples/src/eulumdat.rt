@@ -1,8 +1,9 @@
 // EULUMDAT files: one small file, and what another text on one of its lines makes of it.
+use crate::texts::{first_lines, with_line};
 use eulumdat_reader::{LdtFault, read_ldt};
 use lux_num::NumFault;
 use photo_web::{PhotoKind, Photometry, SymKind};
-use std::alloc::{AllocError, Global};
+use std::alloc::Global;
 use std::test::Fail;
 
 // Planes at 270, 0 and 90 degrees are stored, two values each.
@@ -266,33 +267,6 @@ const ODD: [(usize, &str, [u64; 2], [u64; 2]); 25] = [
 // The bytes that a test reads at most.
 const MOST_BYTES: usize = 10_000;
 
-// The lines, of which one is another text; a text behind the last line is one more.
-fn with_line(alloc: Global, number: usize, text: &str) -> Result<Vec<u8>, AllocError> {
-    let mut bytes = Vec::new(alloc);
-    for (place, line) in LINES.iter().enumerate() {
-        if place + 1 == number {
-            bytes.extend_from_slice(text.as_bytes())?;
-        } else {
-            bytes.extend_from_slice(line.as_bytes())?;
-        }
-        bytes.push(b'\n')?;
-    }
-    if number > LINES.len() {
-        bytes.extend_from_slice(text.as_bytes())?;
-    }
-    Ok(bytes)
-}
-
-// The first lines.
-fn cut_after(alloc: Global, count: usize) -> Result<Vec<u8>, AllocError> {
-    let mut bytes = Vec::new(alloc);
-    for line in LINES.iter().take(count) {
-        bytes.extend_from_slice(line.as_bytes())?;
-        bytes.push(b'\n')?;
-    }
-    Ok(bytes)
-}
-
 fn read(alloc: Global, bytes: &[u8]) -> Result<Photometry, LdtFault> {
     read_ldt(alloc, &bytes[..bytes.len().min(MOST_BYTES)])
 }
@@ -301,13 +275,13 @@ fn read(alloc: Global, bytes: &[u8]) -> Result<Photometry, LdtFault> {
 fn a_cut_file_lacks_its_next_line(rt: HostRuntime) -> Result<(), Fail> {
     let alloc = rt.alloc();
     for count in 0..54u32 {
-        let bytes = cut_after(alloc, count as usize)?;
+        let bytes = first_lines(alloc, &LINES, count as usize)?;
         assert_eq!(rt;
             read(alloc, &bytes).err(),
             Some(LdtFault::Short { line: count + 1 })
         );
     }
-    let bytes = cut_after(alloc, 54)?;
+    let bytes = first_lines(alloc, &LINES, 54)?;
     assert!(rt; read(alloc, &bytes).is_ok());
     Ok(())
 }
@@ -316,7 +290,7 @@ fn a_cut_file_lacks_its_next_line(rt: HostRuntime) -> Result<(), Fail> {
 fn a_faulty_line_has_its_fault(rt: HostRuntime) -> Result<(), Fail> {
     let alloc = rt.alloc();
     for (number, text, expected) in FAULTY {
-        let bytes = with_line(alloc, number, text)?;
+        let bytes = with_line(alloc, &LINES, number, text)?;
         assert_eq!(rt; read(alloc, &bytes).err(), Some(expected));
     }
     Ok(())
@@ -326,7 +300,7 @@ fn a_faulty_line_has_its_fault(rt: HostRuntime) -> Result<(), Fail> {
 fn an_odd_line_is_read(rt: HostRuntime) -> Result<(), Fail> {
     let alloc = rt.alloc();
     for (number, text, first, last) in ODD {
-        let bytes = with_line(alloc, number, text)?;
+        let bytes = with_line(alloc, &LINES, number, text)?;
         let photometry = read(alloc, &bytes)?;
         assert_eq!(rt; photometry.kind, PhotoKind::Ldt);
         assert_eq!(rt; photometry.sym, SymKind::Plane90);

@@ -17,6 +17,8 @@ mod ledgers;
 #[cfg(test)]
 mod lines;
 #[cfg(test)]
+mod lm63;
+#[cfg(test)]
 mod numbers;
 #[cfg(test)]
 mod photometry;

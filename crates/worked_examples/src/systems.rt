@@ -1,8 +1,135 @@
 // Flux systems and system texts.
-use crate::texts::TWO_PATCHES;
+use crate::texts::{TWO_PATCHES, first_lines, with_line};
 use flux_system::{LimitFault, System, SystemFault};
 use std::test::Fail;
 use system_file::{SysFault, read_system};
+
+// Two patches that face each other, line by line.
+const LINES: [&str; 7] = [
+    "lux-system 1",
+    "patches 2",
+    "threshold 10",
+    "direct 1000 0",
+    "reflectance 500 500",
+    "shares 0 500000000",
+    "shares 500000000 0",
+];
+
+// Lines by their number, each with a text and the fault that it is.
+const FAULTY: [(usize, &str, SysFault); 59] = [
+    (1, "lux-system 1 ", SysFault::Header),
+    (1, " lux-system 1", SysFault::Header),
+    (1, "lux-system", SysFault::Header),
+    (1, "lux-ledger 1", SysFault::Header),
+    (1, "lux-system  1", SysFault::Header),
+    (1, "LUX-SYSTEM 1", SysFault::Header),
+    (1, "lux-system 2", SysFault::Header),
+    (2, "", SysFault::Number { line: 2 }),
+    (2, "patches 1", SysFault::Number { line: 4 }),
+    (2, "patches 3", SysFault::Number { line: 4 }),
+    (
+        2,
+        "patches 100000000000000000000",
+        SysFault::Number { line: 2 },
+    ),
+    (
+        2,
+        "patches 18446744073709551616",
+        SysFault::Number { line: 2 },
+    ),
+    (2, "patches", SysFault::Number { line: 2 }),
+    (2, "patches 2 ", SysFault::Number { line: 2 }),
+    (2, "patches 02", SysFault::Number { line: 2 }),
+    (2, "patches -2", SysFault::Number { line: 2 }),
+    (2, "patches two", SysFault::Number { line: 2 }),
+    (2, "patches 2.0", SysFault::Number { line: 2 }),
+    (2, "patches +2", SysFault::Number { line: 2 }),
+    (2, "patches\t2", SysFault::Number { line: 2 }),
+    (2, "patches  2", SysFault::Number { line: 2 }),
+    (2, "patches 2 2", SysFault::Number { line: 2 }),
+    (2, "patch 2", SysFault::Number { line: 2 }),
+    (2, "patches 0", SysFault::Size { n: 0 }),
+    (2, "patches 1025", SysFault::Size { n: 1_025 }),
+    (2, "patches 4294967298", SysFault::Size { n: 4_294_967_298 }),
+    (
+        2,
+        "patches 18446744073709551615",
+        SysFault::Size {
+            n: 18_446_744_073_709_551_615,
+        },
+    ),
+    (3, "threshold 1e1", SysFault::Number { line: 3 }),
+    (3, "threshold 010", SysFault::Number { line: 3 }),
+    (3, "threshold ten", SysFault::Number { line: 3 }),
+    (3, "threshold 0", SysFault::Threshold),
+    (3, "threshold 18446744073709551615", SysFault::Threshold),
+    (3, "threshold 10000000000000001", SysFault::Threshold),
+    (4, "direct 1000, 0", SysFault::Number { line: 4 }),
+    (4, "flux 1000 0", SysFault::Number { line: 4 }),
+    (4, "direct 1000", SysFault::Number { line: 4 }),
+    (4, "direct 1000 0 0", SysFault::Number { line: 4 }),
+    (5, "reflectance 0.5 0.5", SysFault::Number { line: 5 }),
+    (5, "reflectance 50% 50%", SysFault::Number { line: 5 }),
+    (
+        5,
+        "reflectance 500 4294967296",
+        SysFault::Reflectance { patch: 1 },
+    ),
+    (5, "reflectance 500 951", SysFault::Reflectance { patch: 1 }),
+    (
+        5,
+        "reflectance 951 1000",
+        SysFault::Reflectance { patch: 0 },
+    ),
+    (
+        5,
+        "reflectance 18446744073709551615 0",
+        SysFault::Reflectance { patch: 0 },
+    ),
+    (6, "shares 0 500000000 0", SysFault::Number { line: 6 }),
+    (6, "shares 0 1000000000", SysFault::RowTotal { patch: 0 }),
+    (
+        6,
+        "shares 18446744073709551615 18446744073709551615",
+        SysFault::RowTotal { patch: 0 },
+    ),
+    (
+        6,
+        "shares 500000000 500000000",
+        SysFault::RowTotal { patch: 0 },
+    ),
+    (7, "shares x 0\nmore", SysFault::Number { line: 7 }),
+    (
+        7,
+        "shares 18446744073709551616 0",
+        SysFault::Number { line: 7 },
+    ),
+    (7, "shares 500000000 0 ", SysFault::Number { line: 7 }),
+    (7, "shares 500000000\r0", SysFault::Number { line: 7 }),
+    (7, "shares 500000000", SysFault::Number { line: 7 }),
+    (7, "shares 999999999 1", SysFault::RowTotal { patch: 1 }),
+    (7, "shares 4294967296 0", SysFault::RowTotal { patch: 1 }),
+    (7, "shares 4294967295 1", SysFault::RowTotal { patch: 1 }),
+    (7, "shares 500000000 0\n", SysFault::Trailing { line: 8 }),
+    (
+        7,
+        "shares 500000000 0\nmore",
+        SysFault::Trailing { line: 8 },
+    ),
+    (
+        7,
+        "shares 500000000 0\nshares 0 0",
+        SysFault::Trailing { line: 8 },
+    ),
+    (
+        7,
+        "shares 500000000 0\nlux-system 1\npatches 2\nthreshold 10\ndirect 1000 0\nreflectance 500 500\nshares 0 500000000\nshares 500000000 0",
+        SysFault::Trailing { line: 8 },
+    ),
+];
+
+// The bytes that a test reads at most.
+const MOST_BYTES: usize = 10_000;
 
 #[test]
 fn a_system_has_its_numbers(rt: HostRuntime) -> Result<(), Fail> {
@@ -133,6 +260,27 @@ fn a_text_is_refused_by_its_first_fault(rt: HostRuntime) -> Result<(), Fail> {
     ];
     for (text, expected) in rows {
         assert_eq!(rt; read_system(alloc, text.as_bytes()).err(), Some(expected));
+    }
+    Ok(())
+}
+
+#[test]
+fn a_faulty_line_has_its_fault(rt: HostRuntime) -> Result<(), Fail> {
+    let alloc = rt.alloc();
+    for (number, text, expected) in FAULTY {
+        let bytes = with_line(alloc, &LINES, number, text)?;
+        let most = bytes.len().min(MOST_BYTES);
+        assert_eq!(rt; read_system(alloc, &bytes[..most]).err(), Some(expected));
+    }
+    for count in 0..7 {
+        let bytes = first_lines(alloc, &LINES, count)?;
+        let most = bytes.len().min(MOST_BYTES);
+        let expected = if count == 0 {
+            SysFault::Header
+        } else {
+            SysFault::Short
+        };
+        assert_eq!(rt; read_system(alloc, &bytes[..most]).err(), Some(expected));
     }
     Ok(())
 }

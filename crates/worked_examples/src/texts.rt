@@ -1,4 +1,5 @@
 // Texts that several examples use.
+use std::alloc::{AllocError, Global};
 
 /// Two patches that face each other, one of them lit.
 pub const TWO_PATCHES: &str =
@@ -11,3 +12,35 @@ pub const TWO_PATCHES_LEDGER: &str =
 /// The same ledger, and the interval of each patch.
 pub const TWO_PATCHES_SOLVED: &str =
     "lux-ledger 1\npatches 2\nwins 4\nparts 1\npatch 0 direct 1000 taken 1062 residual 4 err 250000000000\npatch 1 direct 0 taken 265 residual 0 err 500000000000\ninterval 0 1066 1069\ninterval 1 265 268\n";
+
+/// The lines of a text, of which one is another text; a text behind the last line is one more.
+pub fn with_line(
+    alloc: Global,
+    lines: &[&str],
+    number: usize,
+    text: &str,
+) -> Result<Vec<u8>, AllocError> {
+    let mut bytes = Vec::new(alloc);
+    for (place, line) in lines.iter().enumerate() {
+        if place + 1 == number {
+            bytes.extend_from_slice(text.as_bytes())?;
+        } else {
+            bytes.extend_from_slice(line.as_bytes())?;
+        }
+        bytes.push(b'\n')?;
+    }
+    if number > lines.len() {
+        bytes.extend_from_slice(text.as_bytes())?;
+    }
+    Ok(bytes)
+}
+
+/// The first lines of a text.
+pub fn first_lines(alloc: Global, lines: &[&str], count: usize) -> Result<Vec<u8>, AllocError> {
+    let mut bytes = Vec::new(alloc);
+    for line in lines.iter().take(count) {
+        bytes.extend_from_slice(line.as_bytes())?;
+        bytes.push(b'\n')?;
+    }
+    Ok(bytes)
+}
