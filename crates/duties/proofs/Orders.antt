@@ -21,6 +21,12 @@ module _ {F : Type 0} where
   unfolding first
   this_met duty duties h = rw h refl
 
+  -- a last duty decides
+  pub last_decides : (duty : Option F) → first (duty ∷ []) ≡ duty
+  unfolding first
+  last_decides None = refl
+  last_decides (Some fault) = refl
+
   -- An error that a `?` hands on answers the whole, where the part that it answers is the first duty of the whole that isn't met.
   pub hands_on : {V : Type 0} (memory : F) (r : Result V F) (f : F) (part whole : Option F) → IsErrAnd r (λ y. y ≡ f) → (f ≢ memory → part ≡ Some f) → (part ≡ Some f → whole ≡ Some f) → Answers memory whole r
   hands_on memory r f part whole is answer step = let p = err_from_is_err_and r is in rw (p.1, p.2) (λ ne. step (answer ne))
@@ -54,14 +60,10 @@ module _ {F : Type 0} where
 
   -- where the duties of the numbers below n are met, the one of n decides
   pub each_more : (duty : ℕ → Option F) (n : ℕ) → each n duty ≡ None → each (n + 1) duty ≡ duty n
-  unfolding each first
+  unfolding each
   each_more duty n before =
       ap first (split duty 0 n 1 (n + 1) refl)
-      ∙ (front_met (map duty (range_with_len 0 n)) (duty (0 + n) ∷ []) before ∙ (last (duty (0 + n)) ∙ ap duty (let e : 0 + n ≡ n = omega arith in e)))
-    where
-      last : (d : Option F) → first (d ∷ []) ≡ d
-      last None = refl
-      last (Some f) = refl
+      ∙ (front_met (map duty (range_with_len 0 n)) (duty (0 + n) ∷ []) before ∙ (last_decides (duty (0 + n)) ∙ ap duty (let e : 0 + n ≡ n = omega arith in e)))
 
   -- the first of many that isn't met, where those before it are met
   pub each_fails : (duty : ℕ → Option F) (n k : ℕ) (f : F) → k < n → each k duty ≡ None → duty k ≡ Some f → each n duty ≡ Some f

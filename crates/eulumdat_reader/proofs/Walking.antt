@@ -1,5 +1,5 @@
 -- Steps along the lines of a text.
-use Rattle.std.proofs.Common.{◌≡◌, ℕ, zero, suc, ◌+◌, ◌-◌, ◌<◌, ◌≤◌, List, [], ◌∷◌, Option, Some, None, length, map, drop, refl, sym, ap, ◌∙◌, arith, add-one}
+use Rattle.std.proofs.Common.{◌≡◌, ℕ, ◌+◌, ◌-◌, ◌≤◌, List, Option, Some, None, length, map, drop, refl, sym, ap, ◌∙◌, arith}
 use Rattle.std.specs.Prelude.{slice_get, is_some}
 use Rattle.std.specs.List.{range_with_len}
 use Rattle.std.proofs.lemmas.List.{length-map}
@@ -47,25 +47,7 @@ numeric_missing all row fault h = by_line (row_at all row) refl
     by_line None is = numeric_none all row is ∙ (sym (present_none all row is) ∙ h)
     by_line (Some line) is = absurd (let none = present_some all row line is in cc)
 
--- what is left of a list begins with the element at its place
-pub left_is : {X : Type 0} (xs : List X) (k : ℕ) (x : X) → slice_get xs k ≡ Some x → (drop k xs ≡ x ∷ drop (k + 1) xs) × (k < length xs)
-left_is [] k x h = absurd (cc)
-left_is (y ∷ xs) zero x h = (cc, omega arith)
-left_is (y ∷ xs) (suc k) x h = let more = left_is xs k x h in (rw add-one (rw add-one at more.0), omega (arith, more.1))
-
-pub nothing_left : {X : Type 0} (xs : List X) (k : ℕ) → slice_get xs k ≡ None → drop k xs ≡ []
-nothing_left [] zero h = refl
-nothing_left [] (suc k) h = refl
-nothing_left (y ∷ xs) zero h = absurd (cc)
-nothing_left (y ∷ xs) (suc k) h = nothing_left xs k h
-
 -- that the lines behind so many are blank
 pub blanks_behind : (all : List Piece) (read : ℕ) → only_blanks all (read + 1) ≡ first (map blank_row (drop read all))
 unfolding only_blanks
 blanks_behind all read = let e : read + 1 - 1 ≡ read = omega arith in rw e refl
-
--- a last duty decides
-pub last_decides : {F : Type 0} (duty : Option F) → first (duty ∷ []) ≡ duty
-unfolding first
-last_decides None = refl
-last_decides (Some fault) = refl

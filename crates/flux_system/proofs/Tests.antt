@@ -1,19 +1,14 @@
 -- What the tests of a system say: which one refuses it, and that it is valid where none does.
-use Rattle.std.proofs.Common.{◌≡◌, ℕ, ◌*◌, ◌<◌, ◌≤◌, ◌^◌, Bool, true, false, leb, eqb, ◌&&◌, [], ◌∷◌, length, Option, Some, None, refl, ◌∙◌, arith}
+use Rattle.std.proofs.Common.{◌≡◌, ℕ, ◌*◌, ◌<◌, ◌≤◌, ◌^◌, Bool, true, false, leb, eqb, ◌&&◌, length, Some, None, ◌∙◌, arith}
 use Rattle.std.specs.Prelude.{slice_index}
 use Rattle.std.proofs.lemmas.Bool.{leb-true, ltb-true, eqb-true, le-leb, lt-leb, lt-ltb, le-ltb, eq-eqb, ne_eqb, and_parts, and_from, and_left, and_right}
 use Rattle.duties.specs.Duties.{first, each}
-use Rattle.duties.proofs.Orders.{this_met, this_fails, unless_holds, unless_fails, unless_met, all_met, each_met}
+use Rattle.duties.proofs.Orders.{this_met, this_fails, last_decides, unless_holds, unless_fails, unless_met, all_met, each_met}
 use Rattle.flux_system.specs.declared.TheConstants.{MOST_PATCHES}
 use Rattle.flux_system.specs.declared.faults.SystemFault.{SystemFault}
 use Rattle.flux_system.specs.declared.faults.SystemFault.TheVariants.{Size, Threshold, Reflectance, RowTotal}
 use Rattle.flux_system.specs.System.{FluxSystem, patches, row_total}
 use Rattle.flux_system.specs.Validity.{IsSystem, reflectance_duty, row_duty, system_duties}
-
-first_of_one : {F : Type 0} (duty : Option F) → first (duty ∷ []) ≡ duty
-unfolding first
-first_of_one None = refl
-first_of_one (Some f) = refl
 
 -- the first two tests
 abbrev has_size : FluxSystem → Bool
@@ -70,7 +65,7 @@ refused_by_reflectance s f size threshold fails = this_met _ _ (unless_holds _ _
 
 pub rows_decide : (s : FluxSystem) → has_size s ≡ true → has_threshold s ≡ true → each (patches s) (reflectance_duty s) ≡ None → first (system_duties s) ≡ each (patches s) (row_duty s)
 unfolding system_duties
-rows_decide s size threshold met = this_met _ _ (unless_holds _ _ size) ∙ (this_met _ _ (unless_holds _ _ threshold) ∙ (this_met _ _ met ∙ first_of_one _))
+rows_decide s size threshold met = this_met _ _ (unless_holds _ _ size) ∙ (this_met _ _ (unless_holds _ _ threshold) ∙ (this_met _ _ met ∙ last_decides _))
 
 pub reflectances_met : (s : FluxSystem) → each (patches s) (reflectance_duty s) ≡ None → (i : ℕ) → i < patches s → slice_index s.reflectance i ≤ 950
 reflectances_met s met i h = leb-true _ _ (unless_met _ _ (each_met (reflectance_duty s) (patches s) i met h))

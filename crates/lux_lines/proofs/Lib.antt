@@ -2,3 +2,4 @@ pub mod Steps
 pub mod Parts
 pub mod Digits
 pub mod TokenSteps
+pub mod Left

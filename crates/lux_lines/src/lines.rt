@@ -1,5 +1,5 @@
 // The lines of a text, one after another.
-ghost use Rattle.std.specs.Prelude.{◌≡◌, ℕ, ◌+◌, ◌<◌, ◌≤◌, ◌^◌, [], drop, take, length, position, slice_get, option_map, is_some, nat_lt, IfSome, IfNone, OnSome, MatchOption};
+ghost use Rattle.std.specs.Prelude.{◌≡◌, ◌+◌, ◌<◌, ◌≤◌, ◌^◌, [], drop, take, length, position, slice_get, option_map, is_some, nat_lt, IfSome, IfNone, OnSome, MatchOption};
 ghost use Rattle.std.specs.List.{before_first, position_or_len};
 ghost use Rattle.lux_lines.specs.Places.{is_newline};
 ghost use Rattle.lux_lines.specs.Lines.{without_return};

@@ -1,5 +1,5 @@
 // The parts of a text that may be a number.
-ghost use Rattle.std.specs.Prelude.{◌≡◌, ℕ, ◌+◌, ◌-◌, ◌*◌, ◌^◌, ◌<◌, ◌≤◌, ◌&&◌, nat_le, true, drop, fold, length, is_some, IfSome, pos, negsuc, ◌≤ℤ◌};
+ghost use Rattle.std.specs.Prelude.{◌≡◌, ℕ, ◌+◌, ◌-◌, ◌*◌, ◌^◌, ◌<◌, ◌≤◌, ◌&&◌, nat_le, true, fold, length, is_some, IfSome, pos, negsuc, ◌≤ℤ◌};
 ghost use Rattle.std.specs.List.{list_all, prefix_len};
 ghost use Rattle.std.specs.Char.{is_ascii_digit};
 ghost use Rattle.lux_num.specs.Digits.{unsigned, has_minus, has_point, front_digits, behind_digits, is_exponent, exponent_value, digits_value};

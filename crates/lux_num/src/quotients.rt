@@ -1,6 +1,6 @@
 // Quotients of products, and square roots.
 ghost use Rattle.std.specs.Prelude.{◌≡◌, ◌+◌, ◌*◌, ◌<◌, ◌≤◌};
-ghost use Rattle.lux_num.specs.Quotients.{quotient_down, quotient_up};
+ghost use Rattle.lux_num.specs.Quotients.{quotient_down, quotient_up, root};
 
 /// `a` times `b`, divided by `divisor` and cut. `None` exactly where `divisor` is 0 or the product passes 128 bits.
 pub fn mul_div_floor(a: u128, b: u128, divisor: u128) -> Option<u128>
@@ -25,6 +25,7 @@ pub fn mul_div_ceil(a: u128, b: u128, divisor: u128) -> Option<u128>
 
 /// The greatest whole number whose square is at most `x`, by Newton's steps from above.
 pub fn isqrt(x: u128) -> u64
+    ensures value { result ≡ root x }
     ensures square { result * result ≤ x }
     ensures next_square { x < (result + 1) * (result + 1) }
 {

@@ -1,5 +1,5 @@
 -- What the tests of a web say: which one refuses it, and that it is valid where none does.
-use Rattle.std.proofs.Common.{◌≡◌, ℕ, ◌+◌, ◌-◌, ◌<◌, ◌≤◌, ◌^◌, Bool, true, false, ltb, leb, eqb, inl, inr, List, [], ◌∷◌, length, Option, Some, None, refl, ap, ◌∙◌, arith}
+use Rattle.std.proofs.Common.{◌≡◌, ℕ, ◌+◌, ◌-◌, ◌<◌, ◌≤◌, ◌^◌, Bool, true, false, ltb, leb, eqb, inl, inr, List, length, Option, Some, None, refl, ap, ◌∙◌, arith}
 use Rattle.std.specs.Prelude.{slice_index, All, position}
 use Rattle.std.specs.Option.{option_map}
 use Rattle.std.specs.List.Sorted.{IsStrictlyIncreasing}
@@ -38,11 +38,6 @@ module _ (most : ℕ) (angles : List ℕ) (met : first_unfit most angles ≡ Non
 
   pub fit_limited : All (λ angle. angle ≤ most) angles
   fit_limited = All-from_get_or (λ angle. angle ≤ most) angles 0 (λ i h. leb-true _ _ (parts i h).1)
-
-first_of_one : {F : Type 0} (duty : Option F) → first (duty ∷ []) ≡ duty
-unfolding first
-first_of_one None = refl
-first_of_one (Some f) = refl
 
 -- a fault that is made of a place comes where the place does
 pub placed_met : {F : Type 0} (fault : ℕ → F) (place : Option ℕ) → option_map fault place ≡ None → place ≡ None

@@ -5,7 +5,8 @@ use Rattle.lux_lines.specs.Places.{Piece}
 use Rattle.lux_lines.specs.Pieces.{line_piece}
 use Rattle.eulumdat_reader.specs.declared.faults.LdtFault.TheVariants.{Memory}
 use Rattle.eulumdat_reader.specs.Rows.{all_lines, blank_row}
-use Rattle.eulumdat_reader.proofs.Walking.{left_is, nothing_left, blanks_behind}
+use Rattle.lux_lines.proofs.Left.{left_is, nothing_left}
+use Rattle.eulumdat_reader.proofs.Walking.{blanks_behind}
 use Rattle.eulumdat_reader.proofs.fields.read_end.Goals as goal
 
 pub loop-line-preserved : goal.loop-line-preserved

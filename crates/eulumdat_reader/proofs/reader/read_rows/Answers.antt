@@ -1,11 +1,10 @@
 use Rattle.std.proofs.Common.{◌≡◌, ◌∙◌}
 use Rattle.duties.specs.Duties.{first}
-use Rattle.duties.proofs.Orders.{hands_on, this_met, this_fails}
+use Rattle.duties.proofs.Orders.{hands_on, last_decides, this_met, this_fails}
 use Rattle.eulumdat_reader.specs.declared.faults.LdtFault.TheVariants.{Memory}
 use Rattle.eulumdat_reader.specs.Rows.{all_lines}
 use Rattle.eulumdat_reader.specs.Layouts.{head_layout}
 use Rattle.eulumdat_reader.specs.Eulumdat.{layout, list_duties, row_duties}
-use Rattle.eulumdat_reader.proofs.Walking.{last_decides}
 use Rattle.eulumdat_reader.proofs.Whole.{layout_is}
 use Rattle.eulumdat_reader.proofs.reader.read_rows.Goals as goal
 

@@ -3,7 +3,8 @@ use Rattle.std.specs.Prelude.{find}
 use Rattle.lux_lines.specs.Lines.{lines}
 use Rattle.lux_lines.specs.Pieces.{line_piece}
 use Rattle.lm63_reader.specs.Front.{is_tilt}
-use Rattle.lm63_reader.proofs.Walking.{left_is, nothing_left, find_here, find_later}
+use Rattle.lux_lines.proofs.Left.{left_is, nothing_left}
+use Rattle.lm63_reader.proofs.Walking.{find_here, find_later}
 use Rattle.lm63_reader.proofs.front.find_tilt.Goals as goal
 
 pub returns-then-is_tilt : goal.returns-then-is_tilt

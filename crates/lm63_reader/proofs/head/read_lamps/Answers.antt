@@ -1,12 +1,11 @@
 use Rattle.std.proofs.Common.{◌∙◌, ◌+◌}
-use Rattle.duties.proofs.Orders.{hands_on, this_met, this_fails}
+use Rattle.duties.proofs.Orders.{hands_on, last_decides, this_met, this_fails}
 use Rattle.lm63_reader.specs.declared.faults.LmFault.TheVariants.{Memory, Factor}
 use Rattle.duties.specs.Duties.{unless}
 use Rattle.lux_lines.specs.TokenWalks.{all_tokens}
 use Rattle.lux_num.specs.Scaled.{is_limited}
 use Rattle.lm63_reader.specs.Fields.{field}
 use Rattle.lm63_reader.specs.Heads.{lamp_duties}
-use Rattle.lm63_reader.proofs.Walking.{last_decides}
 use Rattle.lm63_reader.proofs.head.read_lamps.Goals as goal
 
 pub returns-in_err-skip_numbers-clause-answer : goal.returns-in_err-skip_numbers-clause-answer

@@ -1,11 +1,10 @@
 use Rattle.std.proofs.Common.{◌≡◌, ◌∙◌, ◌+◌, ◌*◌, arith}
-use Rattle.duties.proofs.Orders.{hands_on, this_met, this_fails}
+use Rattle.duties.proofs.Orders.{hands_on, last_decides, this_met, this_fails}
 use Rattle.lux_lines.specs.TokenWalks.{all_tokens}
 use Rattle.lm63_reader.specs.declared.faults.LmFault.TheVariants.{Memory}
 use Rattle.photo_numbers.specs.Numbers.{count_of}
 use Rattle.lm63_reader.specs.Fields.{any_numbers, number_at}
 use Rattle.lm63_reader.specs.Heads.{tilt_duties}
-use Rattle.lm63_reader.proofs.Walking.{last_decides}
 use Rattle.lm63_reader.proofs.head.skip_pairs.Goals as goal
 
 pub returns-in_err-skip_numbers-clause-answer : goal.returns-in_err-skip_numbers-clause-answer

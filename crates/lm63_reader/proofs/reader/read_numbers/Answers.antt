@@ -1,11 +1,10 @@
 use Rattle.std.proofs.Common.{◌≡◌, ◌∙◌, ◌+◌, ℕ, zero-add, ap}
 use Rattle.duties.specs.Duties.{first}
-use Rattle.duties.proofs.Orders.{hands_on, this_met, this_fails}
+use Rattle.duties.proofs.Orders.{hands_on, last_decides, this_met, this_fails}
 use Rattle.lux_lines.specs.TokenWalks.{all_tokens}
 use Rattle.lm63_reader.specs.declared.faults.LmFault.TheVariants.{Memory}
 use Rattle.lm63_reader.specs.Layouts.{head_layout}
 use Rattle.lm63_reader.specs.Lm63.{layout, head_place, number_duties, list_duties}
-use Rattle.lm63_reader.proofs.Walking.{last_decides}
 use Rattle.lm63_reader.proofs.Whole.{layout_is}
 use Rattle.lm63_reader.proofs.reader.read_numbers.Goals as goal
 

@@ -1,5 +1,5 @@
 use Rattle.std.proofs.Common.{◌+◌, ◌<◌, ◌^◌, lit<, arith}
-use Rattle.lux_num.proofs.Roots.{step_above, step_small, step_positive, reached, root_fits, starts_above, first_step}
+use Rattle.lux_num.proofs.Roots.{step_above, step_small, step_positive, reached, root_fits, root_is, starts_above, first_step}
 use Rattle.lux_num.proofs.quotients.isqrt.Goals as goal
 
 pub loop-root-init : goal.loop-root-init
@@ -23,3 +23,10 @@ loop-root-preserved c = record { positive = step_positive c.args.x c.loop-root.r
 
 pub returns-then-next-root-clause-square : goal.returns-then-next-root-clause-square
 returns-then-next-root-clause-square c = reached c.args.x c.loop-root.root c.loop-root.invariant.positive c.if-next-root.true
+
+pub returns-then-next-root-clause-value : goal.returns-then-next-root-clause-value
+returns-then-next-root-clause-value c =
+    root_is c.args.x c.loop-root.root (reached c.args.x c.loop-root.root c.loop-root.invariant.positive c.if-next-root.true) c.loop-root.invariant.above
+
+pub returns-then-x-eq0-clause-value : goal.returns-then-x-eq0-clause-value
+returns-then-x-eq0-clause-value c = root_is c.args.x 0 (omega arith) (omega arith)
