@@ -1,0 +1,4 @@
+mod Table
+mod Greatest
+mod Searched
+mod Between
