@@ -1,0 +1,6 @@
+pub mod Bounds
+pub mod Counts
+pub mod Rows
+pub mod Tests
+pub mod Valid
+pub mod Distances

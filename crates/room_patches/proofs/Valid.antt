@@ -1,0 +1,104 @@
+-- Each patch of a valid room is one: its centre is a place, and its area and reflectance are within their limits.
+use Rattle.std.proofs.Common.{◌≡◌, ℕ, zero, suc, ◌+◌, ◌*◌, ◌<◌, ◌≤◌, pos, List, map, refl, arith}
+use Rattle.std.specs.Prelude.{All}
+use Rattle.std.specs.List.{range_with_len, flat_map}
+use Rattle.std.proofs.lemmas.Int.{ints}
+use Rattle.std.proofs.lemmas.Nat.{mul-le}
+use Rattle.std.proofs.lemmas.List.Elements.{All-nil, All-cons, All-append}
+use Rattle.room_patches.specs.declared.spec.RoomSpec.{RoomSpec}
+use Rattle.room_patches.specs.declared.surface.Surface.{Surface}
+use Rattle.room_patches.specs.declared.surface.Surface.TheVariants.{Floor, Ceiling, Left, Right, Front, Back}
+use Rattle.room_patches.specs.Cuts.{IsCut}
+use Rattle.room_patches.specs.Places.{IsCoordinate, IsPlace}
+use Rattle.room_patches.specs.Patches.{IsPatch, across, upward, place_on, axis_of, reflectance_of, patch_at, row_of, patches_of, patches}
+use Rattle.room_patches.specs.Validity.{IsRoom}
+use Rattle.room_patches.proofs.Bounds.{part-some, part-le, middle-le}
+
+module _ {X : Type 0} (P : X → Type 0) where
+  -- what holds of each value of a function holds of a list of its values
+  all-values : (f : ℕ → X) (a n m : ℕ) → a + n ≡ m → ((k : ℕ) → k < m → P (f k)) → All P (map f (range_with_len a n))
+  all-values f a zero m e each = All-nil P
+  all-values f a (suc n) m e each = All-cons P (f a) (map f (range_with_len (a + 1) n)) (each a (omega arith)) (all-values f (a + 1) n m (omega arith) each)
+
+  all-lists : (f : ℕ → List X) (a n m : ℕ) → a + n ≡ m → ((k : ℕ) → k < m → All P (f k)) → All P (flat_map f (range_with_len a n))
+  all-lists f a zero m e each = All-nil P
+  all-lists f a (suc n) m e each = All-append P (f a) (flat_map f (range_with_len (a + 1) n)) (each a (omega arith)) (all-lists f (a + 1) n m (omega arith) each)
+
+coordinate-valid : (n : ℕ) → n ≤ 200000 → IsCoordinate (pos n)
+coordinate-valid n h = record { low = omega (arith, ints); high = omega (arith, ints) }
+
+module _ (room : RoomSpec) (valid : IsRoom room) where
+  across-valid : (surface : Surface) → IsCut (across room surface)
+  across-valid Floor = valid.width
+  across-valid Ceiling = valid.width
+  across-valid Left = valid.depth
+  across-valid Right = valid.depth
+  across-valid Front = valid.width
+  across-valid Back = valid.width
+
+  upward-valid : (surface : Surface) → IsCut (upward room surface)
+  upward-valid Floor = valid.depth
+  upward-valid Ceiling = valid.depth
+  upward-valid Left = valid.height
+  upward-valid Right = valid.height
+  upward-valid Front = valid.height
+  upward-valid Back = valid.height
+
+  reflectance-valid : (surface : Surface) → reflectance_of room surface ≤ 950
+  reflectance-valid Floor = valid.floor
+  reflectance-valid Ceiling = valid.ceiling
+  reflectance-valid Left = valid.walls
+  reflectance-valid Right = valid.walls
+  reflectance-valid Front = valid.walls
+  reflectance-valid Back = valid.walls
+
+  axis-valid : (surface : Surface) → axis_of surface ≤ 2
+  axis-valid Floor = omega arith
+  axis-valid Ceiling = omega arith
+  axis-valid Left = omega arith
+  axis-valid Right = omega arith
+  axis-valid Front = omega arith
+  axis-valid Back = omega arith
+
+  place-valid : (surface : Surface) (u v : ℕ) → u ≤ 200000 → v ≤ 200000 → IsPlace (place_on room surface u v)
+  place-valid Floor u v hu hv = record { three = refl; x = coordinate-valid u hu; y = coordinate-valid v hv; z = coordinate-valid 0 (omega arith) }
+  place-valid Ceiling u v hu hv =
+      let short = valid.height.short in
+      record { three = refl; x = coordinate-valid u hu; y = coordinate-valid v hv; z = coordinate-valid (2 * room.height) (omega arith) }
+  place-valid Left u v hu hv = record { three = refl; x = coordinate-valid 0 (omega arith); y = coordinate-valid u hu; z = coordinate-valid v hv }
+  place-valid Right u v hu hv =
+      let short = valid.width.short in
+      record { three = refl; x = coordinate-valid (2 * room.width) (omega arith); y = coordinate-valid u hu; z = coordinate-valid v hv }
+  place-valid Front u v hu hv = record { three = refl; x = coordinate-valid u hu; y = coordinate-valid 0 (omega arith); z = coordinate-valid v hv }
+  place-valid Back u v hu hv =
+      let short = valid.depth.short in
+      record { three = refl; x = coordinate-valid u hu; y = coordinate-valid (2 * room.depth) (omega arith); z = coordinate-valid v hv }
+
+  patch-valid : (surface : Surface) (column row : ℕ) → column < (across room surface).parts → row < (upward room surface).parts → IsPatch (patch_at room surface column row)
+  unfolding patch_at
+  patch-valid surface column row in_row in_surface =
+      let a = across-valid surface in
+      let b = upward-valid surface in
+      record {
+        centre = place-valid surface _ _ (middle-le (across room surface) column a in_row) (middle-le (upward room surface) row b in_surface);
+        axis = axis-valid surface;
+        positive = mul-le 1 1 _ _ (part-some (across room surface) column a) (part-some (upward room surface) row b);
+        limited = mul-le _ _ 100000 100000 (part-le (across room surface) column a in_row) (part-le (upward room surface) row b in_surface);
+        reflectance = reflectance-valid surface;
+      }
+
+  surface-valid : (surface : Surface) → All IsPatch (patches_of room surface)
+  unfolding patches_of row_of
+  surface-valid surface =
+      all-lists IsPatch (row_of room surface) 0 (upward room surface).parts (upward room surface).parts (omega arith)
+      (λ row in_surface. all-values IsPatch (λ column. patch_at room surface column row) 0 (across room surface).parts (across room surface).parts (omega arith)
+      (λ column in_row. patch-valid surface column row in_row in_surface))
+
+  pub patches-valid : All IsPatch (patches room)
+  unfolding patches
+  patches-valid =
+      All-append IsPatch (patches_of room Floor) _ (surface-valid Floor)
+      (All-append IsPatch (patches_of room Ceiling) _ (surface-valid Ceiling)
+      (All-append IsPatch (patches_of room Left) _ (surface-valid Left)
+      (All-append IsPatch (patches_of room Right) _ (surface-valid Right)
+      (All-append IsPatch (patches_of room Front) _ (surface-valid Front) (All-append IsPatch (patches_of room Back) _ (surface-valid Back) (All-nil IsPatch))))))

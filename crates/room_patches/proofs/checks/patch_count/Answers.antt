@@ -1,0 +1,6 @@
+use Rattle.std.proofs.Common.{sym}
+use Rattle.room_patches.proofs.Counts.{length-patches}
+use Rattle.room_patches.proofs.checks.patch_count.Goals as goal
+
+pub returns : goal.returns
+returns c = sym (length-patches c.args.room)

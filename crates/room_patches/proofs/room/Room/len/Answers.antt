@@ -1,0 +1,10 @@
+use Rattle.std.proofs.Common.{length, ap, arith}
+use Rattle.room_patches.proofs.Counts.{some-patches}
+use Rattle.room_patches.proofs.room.Room.len.Goals as goal
+
+pub returns-clause-some : goal.returns-clause-some
+returns-clause-some c =
+    let some = some-patches c.self.inside.spec c.self.invariant.valid in
+    let long = ap length c.self.invariant.all in
+    let ok = c.self.inside.patches.ok in
+    omega arith

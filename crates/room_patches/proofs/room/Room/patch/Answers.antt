@@ -1,0 +1,12 @@
+use Rattle.std.proofs.Common.{length, ap, sym, subst, arith}
+use Rattle.std.proofs.lemmas.List.Elements.{All-same}
+use Rattle.room_patches.specs.Patches.{patches, IsPatch}
+use Rattle.room_patches.proofs.Valid.{patches-valid}
+use Rattle.room_patches.proofs.room.Room.patch.Goals as goal
+
+pub returns-clause-patch : goal.returns-clause-patch
+returns-clause-patch c =
+    let held = All-same IsPatch c.self.inside.patches.items (patches c.self.inside.spec) c.self.invariant.all (patches-valid c.self.inside.spec c.self.invariant.valid) in
+    let long = ap length c.self.invariant.all in
+    let view = ap (λ r. length (patches r)) c.self.view_is in
+    subst IsPatch (sym c.index.ensures) (held c.args.i c.index.result.now (omega arith))
