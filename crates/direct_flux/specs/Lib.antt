@@ -1,0 +1,2 @@
+pub mod Beam
+pub mod DirectFlux
