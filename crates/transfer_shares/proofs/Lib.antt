@@ -1,0 +1,4 @@
+pub mod Weights
+pub mod Totals
+pub mod Joined
+pub mod Systems

@@ -1,0 +1,54 @@
+-- Transfer shares: how the flux that leaves a patch falls on the patches of its room, in parts of 10^9. The rule is this project's own: it looks at
+-- the centres of patches alone, and makes each row whole by its own sum. So shares are no true form factors, and they need not be reciprocal.
+use Rattle.std.specs.Prelude.{ℕ, ◌-◌, ◌*◌, ◌/◌, ◌^◌, ◌==◌, ◌&&◌, nat_lt, if◌then◌else◌, List, [], map, sum, option_map, unwrap_or, slice_get}
+use Rattle.std.specs.List.{flat_map}
+use Rattle.room_patches.specs.declared.spec.RoomSpec.{RoomSpec}
+use Rattle.room_patches.specs.declared.patch.Patch.{Patch}
+use Rattle.room_patches.specs.Patches.{patches, in_front}
+use Rattle.room_patches.specs.Places.{squared_distance}
+use Rattle.flux_system.specs.System.{FluxSystem}
+
+-- how far the centre of the second patch lies in front of the first
+abbrev pub ahead : Patch → Patch → ℕ
+ahead from to = in_front from to.centre
+
+-- what the flux from one patch to another weighs: the two cosines times the other's area over the square of the distance of the centres, times 10^15
+-- and cut. Lengths count half-millimetres and areas square millimetres, since a constant factor makes no difference to shares. The weight is 0 unless
+-- each centre lies before the plane of the other patch, and so it is from a patch to itself, whose centre lies in its own plane.
+unfoldable pub weight : Patch → Patch → ℕ
+weight from to =
+    if nat_lt 0 (ahead from to) && nat_lt 0 (ahead to from)
+    then 10 ^ 15 * ahead from to * ahead to from * to.area / (squared_distance from.centre to.centre * squared_distance from.centre to.centre)
+    else 0
+
+-- the weights from a patch to all patches of the room
+abbrev pub weights : RoomSpec → Patch → List ℕ
+weights room from = map (weight from) (patches room)
+
+-- the share that a weight has in a sum of weights, cut; none where nothing weighs
+abbrev pub share : ℕ → ℕ → ℕ
+share total weight = if total == 0 then 0 else weight * (10 ^ 9 - 1) / total
+
+-- the share that each of some weights has in their sum
+unfoldable pub shares_of : List ℕ → List ℕ
+shares_of weights = map (share (sum weights)) weights
+
+-- the shares from a patch to all patches of the room
+abbrev pub row_from : RoomSpec → Patch → List ℕ
+row_from room from = shares_of (weights room from)
+
+-- the shares from patch i
+abbrev pub row_of : RoomSpec → ℕ → List ℕ
+row_of room i = unwrap_or (option_map (row_from room) (slice_get (patches room) i)) []
+
+-- all shares, a row for each patch
+unfoldable pub all_shares : RoomSpec → List ℕ
+all_shares room = flat_map (row_from room) (patches room)
+
+-- the reflectance of each patch
+unfoldable pub reflectances_of : RoomSpec → List ℕ
+reflectances_of room = map (λ patch. patch.reflectance) (patches room)
+
+-- the flux system of a room, with a threshold
+abbrev pub system_of : RoomSpec → ℕ → FluxSystem
+system_of room threshold = record { threshold = threshold; reflectance = reflectances_of room; shares = all_shares room }

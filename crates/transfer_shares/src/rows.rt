@@ -1,0 +1,67 @@
+// The shares of a room, row by row.
+ghost use Rattle.std.specs.Prelude.{◌≡◌, ℕ, ◌-◌, ◌<◌, ◌≤◌, ◌^◌, None, IfOk, All, length, map, sum};
+ghost use Rattle.duties.specs.Duties.{first};
+ghost use Rattle.room_patches.specs.Patches.{patches, IsPatch};
+ghost use Rattle.flux_system.specs.Validity.{system_duties};
+ghost use Rattle.transfer_shares.specs.Shares.{weight, shares_of, row_of, all_shares, reflectances_of, system_of};
+
+use crate::sharing::share_out;
+use crate::weighing::weigh;
+use room_patches::{MOST_PATCHES, Patch, Room};
+use std::alloc::{AllocError, Global};
+
+/// Writes the shares of the flux from patch `i` that fall on each patch, in parts of 10^9.
+pub fn shares_row(room: &Room, i: usize, into: &mut [u32])
+    requires row { i < length (patches room.now) }
+    requires places { length into.old ≡ length (patches room.now) }
+    ensures row { into.new ≡ row_of room.now i }
+    ensures total { sum into.new ≤ 10 ^ 9 - 1 }
+{
+    prove_eq!(into.len(), room.len());
+    let patches = room.patches();
+    write_row(&patches[i], patches, into);
+}
+
+/// The shares of all patches, a row for each. With them and with the [`reflectances`] of the room a flux system of any
+/// threshold within the limits is accepted.
+pub fn all_rows(alloc: Global, room: &Room) -> Result<Vec<u32>, AllocError>
+    ensures rows { IfOk result (λ shares. shares.items ≡ all_shares room.now) }
+    ensures accepted { (threshold : ℕ) → 1 ≤ threshold → threshold ≤ 10 ^ 16 → first (system_duties (system_of room.now threshold)) ≡ None }
+{
+    let n = room.len();
+    let patches = room.patches();
+    let mut row = [0u32; MOST_PATCHES];
+    let row = &mut row[..n];
+    let mut shares = Vec::with_capacity(alloc, n * n)?;
+    for from in patches {
+        write_row(from, patches, row);
+        shares.extend_from_slice(row)?;
+    }
+    Ok(shares)
+}
+
+/// The reflectance of each patch in per mille.
+#[tactic(auto, unfolding(crate::specs::Shares::reflectances_of))]
+pub fn reflectances(alloc: Global, room: &Room) -> Result<Vec<u32>, AllocError>
+    ensures { IfOk result (λ all. all.items ≡ reflectances_of room.now) }
+{
+    room.patches()
+        .iter()
+        .map(|patch| patch.reflectance)
+        .collect(alloc)
+}
+
+// Writes the shares of the flux from one patch that fall on each of some patches.
+fn write_row(from: &Patch, patches: &[Patch], into: &mut [u32])
+    requires from { IsPatch from.now }
+    requires patches { All IsPatch patches.now }
+    requires few { length patches.now ≤ MOST_PATCHES }
+    requires places { length into.old ≡ length patches.now }
+    ensures shares { into.new ≡ shares_of (map (weight from.now) patches.now) }
+    ensures total { sum into.new ≤ 10 ^ 9 - 1 }
+{
+    let mut weights = [0u128; MOST_PATCHES];
+    let weights = &mut weights[..patches.len()];
+    let total = weigh(from, patches, weights);
+    share_out(weights, total, into);
+}
