@@ -1,0 +1,7 @@
+pub mod Boundaries
+pub mod Files
+pub mod Keys
+pub mod Lists
+pub mod Steps
+pub mod Versions
+pub mod Webs

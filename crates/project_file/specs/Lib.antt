@@ -1,0 +1,6 @@
+pub mod FieldDuties
+pub mod Fields
+pub mod Names
+pub mod Projects
+pub mod Tables
+pub mod Texts

@@ -1,0 +1,18 @@
+//! The project file: a room, its luminaires and the solver's threshold, as a TOML document.
+//!
+//! [`read_project`] reads it. What the bytes of a file stand for is defined in `specs/Projects.antt` over the tree that
+//! the crate `toml` gives of them: a [`Project`], or the first of the file's duties that isn't met, in the order of its
+//! tables and of their fields. `specs/Tables.antt` has the fields of each table, `specs/Fields.antt` what a field may
+//! hold, `specs/FieldDuties.antt` the duties of a field and of a table, and `specs/Names.antt` how a fault names a field.
+#![tactic(auto)]
+
+mod faults;
+mod luminaires;
+mod places;
+mod project;
+mod reader;
+mod sections;
+
+pub use faults::ProjFault;
+pub use project::Project;
+pub use reader::read_project;

@@ -1,0 +1,98 @@
+// A project.
+ghost use Rattle.std.specs.Prelude.{◌≡◌, ◌≤◌, ◌<◌, ◌^◌, length};
+ghost use Rattle.std.specs.List.{All};
+ghost use Rattle.project_file.specs.Projects.{LightingProject, IsProject};
+
+use fixtures::FixtureSpec;
+use lux_io::Name;
+use room_patches::RoomSpec;
+use std::marker::Model;
+
+/// A room to light, the residual flux at which the solver stops, the files of the photometries, and the luminaires, each
+/// of which has the number of its file as its web. Contracts see it as the record of these.
+#[derive(Debug, Drop)]
+pub struct Project {
+    room: RoomSpec,
+    threshold: u64,
+    files: Vec<Name>,
+    fixtures: Vec<FixtureSpec>,
+}
+
+impl Model for Project {
+    ghost use Rattle.project_file.specs.Projects.{LightingProject, IsProject};
+
+    ghost Value = { LightingProject };
+
+    ghost view = { λ p. record { room = p.room; threshold = p.threshold; files = p.files.items; fixtures = p.fixtures.items } };
+
+    ghost invariant = { λ p. IsProject p.threshold p.files.items p.fixtures.items };
+}
+
+impl Project {
+    /// A project of these parts.
+    pub fn new(
+        room: RoomSpec,
+        threshold: u64,
+        files: Vec<Name>,
+        fixtures: Vec<FixtureSpec>,
+    ) -> Project
+        requires { IsProject threshold files.items fixtures.items }
+        ensures { result ≡ record { room = room; threshold = threshold; files = files.items; fixtures = fixtures.items } }
+    {
+        Project {
+            room,
+            threshold,
+            files,
+            fixtures,
+        }
+    }
+
+    /// The room.
+    pub fn room(&self) -> RoomSpec
+        ensures { result ≡ self.now.room }
+    {
+        self.room
+    }
+
+    /// The residual flux in nanolumens at which the solver stops.
+    pub fn threshold(&self) -> u64
+        ensures value { result ≡ self.now.threshold }
+        ensures some { 1 ≤ result }
+        ensures low { result ≤ 10 ^ 16 }
+    {
+        self.threshold
+    }
+
+    /// The names of the files of photometry, in the order in which they are numbered.
+    pub fn files(&self) -> &[Name]
+        ensures value { result.now ≡ self.now.files }
+        ensures few { length result.now ≤ 32 }
+    {
+        self.files.as_slice()
+    }
+
+    /// The luminaires.
+    pub fn fixtures(&self) -> &[FixtureSpec]
+        ensures value { result.now ≡ self.now.fixtures }
+        ensures few { length result.now ≤ 256 }
+        ensures webs { All (λ f. f.web < length self.now.files) result.now }
+    {
+        self.fixtures.as_slice()
+    }
+
+    /// The room, the threshold, the files and the luminaires. Takes no memory.
+    pub fn into_parts(self) -> (RoomSpec, u64, Vec<Name>, Vec<FixtureSpec>)
+        ensures room { result.0 ≡ self.room }
+        ensures threshold { result.1 ≡ self.threshold }
+        ensures files { result.2.items ≡ self.files }
+        ensures fixtures { result.3.items ≡ self.fixtures }
+    {
+        let Project {
+            room,
+            threshold,
+            files,
+            fixtures,
+        } = self;
+        (room, threshold, files, fixtures)
+    }
+}

@@ -1,0 +1,177 @@
+// The reader of a project file.
+ghost use Rattle.std.specs.Prelude.{◌≡◌, ◌≢◌, ◌≤◌, ◌<◌, ◌^◌, [], ◌∷◌, Some, None, Ok, Err, true, false, length, codes, IfOk, IfErr};
+ghost use Rattle.std.specs.List.{list_all};
+ghost use Rattle.std.specs.Option.{option_map_or};
+ghost use Rattle.duties.specs.Duties.{Answers, first, unless};
+ghost use Rattle.toml.specs.Data.{get_member};
+ghost use Rattle.toml.specs.View.{items_view, table_view};
+ghost use Rattle.project_file.specs.declared.faults.ProjFault.TheVariants.{Memory, Toml, Version};
+ghost use Rattle.project_file.specs.declared.places.Place.TheVariants as places;
+ghost use Rattle.project_file.specs.Fields.{listed, is_kind, table as tables, within, number_of};
+ghost use Rattle.project_file.specs.Tables.{top_fields, room_fields};
+ghost use Rattle.project_file.specs.FieldDuties.{fields_duty, table_duty};
+ghost use Rattle.project_file.specs.Projects.{tree_of, project_duties, project_in, room_in, solver_in, luminaires_in, room_of, project_of, IsProject};
+
+use crate::luminaires::read_luminaires;
+use crate::places::Place;
+use crate::sections::Section;
+use crate::{ProjFault, Project};
+use room_patches::RoomSpec;
+use std::alloc::Global;
+use toml::{Table, Value};
+
+/// The greatest threshold, in nanolumens.
+const MOST_THRESHOLD: u64 = 10_000_000_000_000_000;
+
+/// The most luminaires.
+const MOST_LUMINAIRES: usize = 256;
+
+// What the top table says.
+#[derive(Clone, Copy)]
+struct Top<'a> {
+    room: &'a Table,
+    solver: &'a Table,
+    luminaires: &'a [Value],
+}
+
+/// The project that the bytes of a file stand for. The first of the file's duties that isn't met gives the error; `Memory`
+/// may come in the place of any.
+pub fn read_project(alloc: Global, text: &[u8]) -> Result<Project, ProjFault>
+    requires { length text.now < 2 ^ 31 }
+    ensures ok { IfOk result (λ project. project_of text.now ≡ Ok project) }
+    ensures fault { IfErr result (λ f. f ≢ Memory → project_of text.now ≡ Err f) }
+    ensures fits { IfOk result (λ project. IsProject project.threshold project.files project.fixtures) }
+{
+    let table = read_tree(alloc, text)?;
+    read_table(alloc, &table)
+}
+
+// The TOML tree of the bytes.
+fn read_tree(alloc: Global, text: &[u8]) -> Result<Table, ProjFault>
+    ensures ok { IfOk result (λ t. tree_of text.now ≡ Some (table_view t)) }
+    ensures fault { IfErr result (λ f. f ≢ Memory → f ≡ Toml) }
+    ensures none { IfErr result (λ f. f ≢ Memory → tree_of text.now ≡ None) }
+{
+    let Ok(text) = std::str::from_utf8(text) else {
+        return Err(ProjFault::Toml);
+    };
+    match toml::table_from_str(alloc, text) {
+        Ok(table) => Ok(table),
+        Err(error) if error.is_memory() => Err(ProjFault::Memory),
+        Err(_) => Err(ProjFault::Toml),
+    }
+}
+
+// The project of a tree.
+#[tactic(auto, using(duties::proofs::Orders::steps), unfolding(crate::specs::Projects::project_duties))]
+fn read_table(alloc: Global, table: &Table) -> Result<Project, ProjFault>
+    ensures answer { Answers Memory (first (project_duties (table_view table.now))) result }
+    ensures value { IfOk result (λ project. project ≡ project_in (table_view table.now)) }
+    ensures fits { IfOk result (λ project. IsProject project.threshold project.files project.fixtures) }
+{
+    let top = read_top(alloc, table)?;
+    let room = read_room(alloc, top.room)?;
+    let threshold = read_threshold(alloc, top.solver)?;
+    let (files, fixtures) = read_luminaires(alloc, top.luminaires)?;
+    Ok(Project::new(room, threshold, files, fixtures))
+}
+
+// The version, and what the top table says.
+#[tactic(auto, using(duties::proofs::Orders::steps), unfolding(crate::specs::FieldDuties::table_duty))]
+fn read_top(alloc: Global, table: &Table) -> Result<Top, ProjFault>
+    ensures answer { Answers Memory (first (unless (option_map_or (within 1 1) (get_member (codes "version") (table_view table.now)) false) Version ∷ table_duty places.Top (table_view table.now) ∷ [])) result }
+    ensures room { IfOk result (λ top. table_view top.room.now ≡ room_in (table_view table.now)) }
+    ensures solver { IfOk result (λ top. table_view top.solver.now ≡ solver_in (table_view table.now)) }
+    ensures luminaires { IfOk result (λ top. listed (items_view top.luminaires.now) ≡ luminaires_in (table_view table.now)) }
+    ensures few { IfOk result (λ top. length top.luminaires.now ≤ 256) }
+    ensures tables { IfOk result (λ top. list_all (is_kind tables) (listed (items_view top.luminaires.now)) ≡ true) }
+{
+    let top = Section {
+        alloc,
+        place: Place::Top,
+        table,
+    };
+    if !top.is_version_one() {
+        return Err(ProjFault::Version);
+    }
+    top.keys()?;
+    read_top_fields(&top)
+}
+
+// What the top table says, whose version is 1.
+#[tactic(auto, using(duties::proofs::Orders::steps, crate::proofs::Versions::version_met), unfolding(crate::specs::FieldDuties::fields_duty))]
+fn read_top_fields<'a>(top: &Section<'a>) -> Result<Top<'a>, ProjFault>
+    requires { option_map_or (within 1 1) (get_member (codes "version") (table_view top.now.table.now)) false ≡ true }
+    ensures answer { Answers Memory (fields_duty top.now.place top_fields (table_view top.now.table.now)) result }
+    ensures room { IfOk result (λ r. table_view r.room.now ≡ room_in (table_view top.now.table.now)) }
+    ensures solver { IfOk result (λ r. table_view r.solver.now ≡ solver_in (table_view top.now.table.now)) }
+    ensures luminaires { IfOk result (λ r. listed (items_view r.luminaires.now) ≡ luminaires_in (table_view top.now.table.now)) }
+    ensures few { IfOk result (λ r. length r.luminaires.now ≤ 256) }
+    ensures tables { IfOk result (λ r. list_all (is_kind tables) (listed (items_view r.luminaires.now)) ≡ true) }
+{
+    let room = top.table("room")?;
+    let solver = top.table("solver")?;
+    let luminaires = top.tables("luminaire", MOST_LUMINAIRES)?;
+    Ok(Top {
+        room,
+        solver,
+        luminaires,
+    })
+}
+
+// The room.
+#[tactic(auto, using(duties::proofs::Orders::steps), unfolding(crate::specs::FieldDuties::table_duty))]
+fn read_room(alloc: Global, table: &Table) -> Result<RoomSpec, ProjFault>
+    ensures answer { Answers Memory (table_duty places.Room (table_view table.now)) result }
+    ensures value { IfOk result (λ room. room ≡ room_of (table_view table.now)) }
+{
+    let room = Section {
+        alloc,
+        place: Place::Room,
+        table,
+    };
+    room.keys()?;
+    read_room_fields(&room)
+}
+
+#[tactic(auto, using(duties::proofs::Orders::steps), unfolding(crate::specs::FieldDuties::fields_duty, crate::specs::Projects::room_of))]
+fn read_room_fields(room: &Section) -> Result<RoomSpec, ProjFault>
+    ensures answer { Answers Memory (fields_duty room.now.place room_fields (table_view room.now.table.now)) result }
+    ensures value { IfOk result (λ r. r ≡ room_of (table_view room.now.table.now)) }
+{
+    let width = room.small("width")?;
+    let depth = room.small("depth")?;
+    let height = room.small("height")?;
+    let (nx, ny, nz) = room.three("counts")?;
+    let floor = room.small("floor")?;
+    let ceiling = room.small("ceiling")?;
+    let walls = room.small("walls")?;
+    Ok(RoomSpec {
+        width,
+        depth,
+        height,
+        nx,
+        ny,
+        nz,
+        floor,
+        ceiling,
+        walls,
+    })
+}
+
+// The solver's threshold.
+#[tactic(auto, using(duties::proofs::Orders::steps), unfolding(crate::specs::FieldDuties::table_duty, crate::specs::FieldDuties::fields_duty))]
+fn read_threshold(alloc: Global, table: &Table) -> Result<u64, ProjFault>
+    ensures answer { Answers Memory (table_duty places.Solver (table_view table.now)) result }
+    ensures value { IfOk result (λ n. n ≡ number_of (get_member (codes "threshold") (table_view table.now))) }
+    ensures some { IfOk result (λ n. 1 ≤ n) }
+    ensures low { IfOk result (λ n. n ≤ 10 ^ 16) }
+{
+    let solver = Section {
+        alloc,
+        place: Place::Solver,
+        table,
+    };
+    solver.keys()?;
+    solver.number("threshold", 1, MOST_THRESHOLD)
+}
