@@ -1,8 +1,14 @@
 pub mod Pieces
 pub mod Taking
+pub mod Chains
+pub mod Lit
+pub mod Webs
+pub mod Refusals
 pub mod Caused
 pub mod Plain
 pub mod Heads
 pub mod Rows
+pub mod SolvedRows
+pub mod CommandLines
 pub mod Prints
 pub mod Limited

@@ -1,77 +1,44 @@
--- The row of each answer, from what was ready or refused, and from what was then put to the sinks.
-use Rattle.std.proofs.Common.{◌≡◌, ℕ, List, inl, inr, refl, sym, ap, subst, ◌∙◌, Result, Ok, Err, Option, Some, None, IfOk, IfErr}
-use Rattle.flux_system.specs.System.{FluxSystem}
-use Rattle.lux_io.specs.Shelves.{ShelfState}
+-- The row of each answer of a command, from what was ready or refused, and from what was then put to the sinks.
+use Rattle.std.proofs.Common.{◌≡◌, inl, inr, sym, subst, Result, Ok, Err, Option, IfOk, IfErr}
+use Rattle.flux_ledger.specs.declared.ledger.Ledger.{Ledger}
 use Rattle.lux_io.specs.Sinks.{Wrote, WroteSome}
 use Rattle.lux_top.specs.declared.answers.Answer.{Answer}
-use Rattle.lux_top.specs.declared.answers.Answer.TheVariants.{Done, Usage, Write, Memory}
-use Rattle.lux_top.specs.declared.answers.Worst.TheVariants.{AllPass}
+use Rattle.lux_top.specs.declared.answers.Answer.TheVariants.{Done, Write, Memory}
+use Rattle.lux_top.specs.declared.answers.Worst.{Worst}
 use Rattle.lux_top.specs.declared.answers.Outcome.{Outcome}
-use Rattle.lux_top.specs.declared.commands.Command.{Command}
-use Rattle.lux_top.specs.declared.commands.Command.TheVariants.{Solve, Photo}
 use Rattle.lux_top.specs.Answers.{outcome_of}
-use Rattle.lux_top.specs.CommandRows.{CommandRow}
+use Rattle.lux_top.specs.Notes.{Noted}
 use Rattle.lux_top.specs.Ready.{Writing}
-use Rattle.lux_top.specs.Runs.{World, Refused, Concludes, Concluded}
-use Rattle.lux_top.specs.SolveRows.{IsFileProblem, IsWithinLimits, IsReadyFor, IsReady, SolveRefusal, SolveRow}
+use Rattle.lux_top.specs.Runs.{World, Refused, Row, Concludes, Concluded}
 
--- the settled ledger of a problem is that of the file which says the problem
-pub ready_of_problem : (shelf : ShelfState) (name : List ℕ) (problem : FluxSystem × List ℕ) (result : Result Writing Answer) → IsFileProblem shelf name problem → IsWithinLimits problem → IfOk result (IsReadyFor problem) → IfOk result (IsReady shelf name)
-ready_of_problem shelf name problem (Err answer) read limited ready = tt
-ready_of_problem shelf name problem (Ok writing) read limited ready = record {
-  ledger = ready.ledger;
-  solved = record { problem = problem; is_read = read; within_limits = limited; is_settled = ready.is_settled };
-  carries = ready.carries;
-}
+-- what a command says of its rows: what it is where something is ready, whole or cut off, and that want of memory needs no
+-- reason, and `Done` and `Write` are no refusals
+pub record IsRowed (IsReady : Writing → Type 0) (Completed : Option Ledger → Worst → Type 0) (CutOff : Type 0) (Reason : Answer → Type 0) (before after : World) : Type 0 where
+  pub completes : (writing : Writing) → IsReady writing → Wrote before.out after.out writing.bytes → after.notes ≡ before.notes → Row Completed CutOff Reason before after writing.answer
+  pub cuts_off : (writing : Writing) → IsReady writing → WroteSome before.out after.out writing.bytes → Noted Write before.notes after.notes → CutOff
+  pub memory : Reason Memory
+  pub no_done : (ledger : Option Ledger) (worst : Worst) → Reason (Done ledger worst) → ⊥
+  pub no_write : Reason Write → ⊥
 
-row_of_outcome : (name : List ℕ) (before after : World) (outcome : Outcome) (answer : Answer) → outcome ≡ outcome_of answer → SolveRow name before after answer → SolveRow name before after outcome.answer
-row_of_outcome name before after outcome answer is row = subst (λ (o : Outcome). SolveRow name before after o.answer) (sym is) row
+module _ (IsReady : Writing → Type 0) (Completed : Option Ledger → Worst → Type 0) (CutOff : Type 0) (Reason : Answer → Type 0) (before after : World) (rowed : IsRowed IsReady Completed CutOff Reason before after) where
+  abbrev RowOf : Answer → Type 0
+  RowOf = Row Completed CutOff Reason before after
 
--- a refusal's row
-refused_row : (name : List ℕ) (before after : World) (answer : Answer) → SolveRefusal name before.shelf after.shelf answer → Refused answer before after → SolveRow name before after answer
-refused_row name before after (Done ledger worst) why refused = absurd why
-refused_row name before after Write why refused = absurd why
-refused_row name before after _ why refused = (refused, why)
+  row_of_outcome : (outcome : Outcome) (answer : Answer) → outcome ≡ outcome_of answer → RowOf answer → RowOf outcome.answer
+  row_of_outcome outcome answer is row = subst (λ (o : Outcome). RowOf o.answer) (sym is) row
 
-concluded_row : (name : List ℕ) (before after : World) (decided : Result Writing Answer) (outcome : Outcome) → IfOk decided (IsReady before.shelf name) → IfErr decided (SolveRefusal name before.shelf after.shelf) → Concludes decided before after outcome → SolveRow name before after outcome.answer
-concluded_row name before after (Err answer) outcome ready why (is, refused) = row_of_outcome name before after outcome answer is (refused_row name before after answer why refused)
-concluded_row name before after (Ok writing) outcome ready why (inl (is, wrote, same)) =
-    let done : outcome ≡ outcome_of (Done (Some ready.ledger) AllPass) = is ∙ ap outcome_of ready.carries.is_done in
-    row_of_outcome name before after outcome (Done (Some ready.ledger) AllPass) done (record {
-      ledger = ready.ledger;
-      is_answered = refl;
-      solved = ready.solved;
-      all_pass = refl;
-      wrote = subst (λ (bytes : List ℕ). Wrote before.out after.out bytes) ready.carries.is_text wrote;
-      no_note = same;
-    })
-concluded_row name before after (Ok writing) outcome ready why (inr (is, some, noted)) =
-    row_of_outcome name before after outcome Write is (record {
-      ledger = ready.ledger;
-      solved = ready.solved;
-      wrote = subst (λ (bytes : List ℕ). WroteSome before.out after.out bytes) ready.carries.is_text some;
-      noted = noted;
-    })
+  -- a refusal's row
+  refused_row : (answer : Answer) → Reason answer → Refused answer before after → RowOf answer
+  refused_row (Done ledger worst) why refused = absurd (rowed.no_done ledger worst why)
+  refused_row Write why refused = absurd (rowed.no_write why)
+  refused_row _ why refused = (refused, why)
 
--- the row of whatever was decided and concluded
-pub row_of : (name : List ℕ) (before after : World) (decided : Result Writing Answer) (outcome : Outcome) → IfOk decided (IsReady before.shelf name) → IfErr decided (SolveRefusal name before.shelf after.shelf) → Concluded decided before after outcome → SolveRow name before after outcome.answer
-row_of name before after decided outcome ready why (inl concluded) = concluded_row name before after decided outcome ready why concluded
-row_of name before after decided outcome ready why (inr (is, refused)) = row_of_outcome name before after outcome Memory is (refused, tt)
+  concluded_row : (decided : Result Writing Answer) (outcome : Outcome) → IfOk decided IsReady → IfErr decided Reason → Concludes decided before after outcome → RowOf outcome.answer
+  concluded_row (Err answer) outcome ready why (is, refused) = row_of_outcome outcome answer is (refused_row answer why refused)
+  concluded_row (Ok writing) outcome ready why (inl (is, wrote, same)) = row_of_outcome outcome writing.answer is (rowed.completes writing ready wrote same)
+  concluded_row (Ok writing) outcome ready why (inr (is, some, noted)) = row_of_outcome outcome Write is (rowed.cuts_off writing ready some noted)
 
-row_of_words : (command : Option Command) (before after : World) (outcome : Outcome) (answer : Answer) → outcome ≡ outcome_of answer → CommandRow command before after answer → CommandRow command before after outcome.answer
-row_of_words command before after outcome answer is row = subst (λ (o : Outcome). CommandRow command before after o.answer) (sym is) row
-
-refused_memory : (command : Option Command) (before after : World) → Refused Memory before after → CommandRow command before after Memory
-refused_memory None before after refused = refused
-refused_memory (Some (Solve name)) before after refused = (refused, tt)
-refused_memory (Some (Photo name)) before after refused = (refused, tt)
-
--- want of memory before the words were read
-pub memory_row : (command : Option Command) (before after : World) (outcome : Outcome) → Concluded (Err Memory) before after outcome → CommandRow command before after outcome.answer
-memory_row command before after outcome (inl (is, refused)) = row_of_words command before after outcome Memory is (refused_memory command before after refused)
-memory_row command before after outcome (inr (is, refused)) = row_of_words command before after outcome Memory is (refused_memory command before after refused)
-
--- words that are no command
-pub usage_row : (before after : World) (outcome : Outcome) → Concluded (Err Usage) before after outcome → CommandRow None before after outcome.answer
-usage_row before after outcome (inl (is, refused)) = row_of_words None before after outcome Usage is refused
-usage_row before after outcome (inr (is, refused)) = row_of_words None before after outcome Memory is refused
+  -- the row of whatever was decided and concluded
+  pub row_of : (decided : Result Writing Answer) (outcome : Outcome) → IfOk decided IsReady → IfErr decided Reason → Concluded decided before after outcome → RowOf outcome.answer
+  row_of decided outcome ready why (inl concluded) = concluded_row decided outcome ready why concluded
+  row_of decided outcome ready why (inr (is, refused)) = row_of_outcome outcome Memory is (refused, rowed.memory)

@@ -1,7 +1,7 @@
 -- The exit status and the cause of each answer. A new answer adds a line to each table.
 use Rattle.std.specs.Prelude.{ℕ, List}
 use Rattle.lux_top.specs.declared.answers.Answer.{Answer}
-use Rattle.lux_top.specs.declared.answers.Answer.TheVariants.{Done, Usage, Read, TooLong, System, Photometry, Limits, Write, Memory}
+use Rattle.lux_top.specs.declared.answers.Answer.TheVariants.{Done, Usage, Read, TooLong, Project, Room, Fixture, System, Photometry, Limits, Write, Memory}
 use Rattle.lux_top.specs.declared.answers.Worst.{Worst}
 use Rattle.lux_top.specs.declared.answers.Worst.TheVariants.{AllPass, SomeFail, SomeUndecided}
 use Rattle.lux_top.specs.declared.answers.Outcome.{Outcome}
@@ -14,6 +14,9 @@ status_of_worst SomeUndecided = 2
 abbrev pub status_of : Answer → ℕ
 status_of (Done ledger worst) = status_of_worst worst
 status_of Usage = 3
+status_of (Project fault) = 4
+status_of (Room fault) = 4
+status_of (Fixture fault) = 4
 status_of (System fault) = 4
 status_of (Photometry name fault) = 5
 status_of (Read name) = 6
@@ -38,6 +41,9 @@ pub data Cause : Type 0 where
 abbrev pub cause_of : Answer → Cause
 cause_of (Done ledger worst) = Nothing
 cause_of Usage = Contents
+cause_of (Project fault) = Contents
+cause_of (Room fault) = Contents
+cause_of (Fixture fault) = Contents
 cause_of (System fault) = Contents
 cause_of (Photometry name fault) = Contents
 cause_of (Read name) = FailedRead name

@@ -7,6 +7,8 @@ pub mod PhotometryText
 pub mod PhotoRows
 pub mod Plans
 pub mod Ready
+pub mod Running
+pub mod RunRows
 pub mod Runs
 pub mod Solving
 pub mod SolveRows

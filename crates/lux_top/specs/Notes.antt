@@ -3,6 +3,8 @@ use Rattle.std.specs.Prelude.{◌⊎◌, ℕ, List, [], ◌++◌, codes}
 use Rattle.std.specs.Fmt.{decimal}
 use Rattle.eulumdat_reader.specs.declared.faults.LdtFault.{LdtFault}
 use Rattle.eulumdat_reader.specs.declared.faults.LdtFault.TheVariants as ldt
+use Rattle.fixtures.specs.declared.faults.FixtureFault.{FixtureFault}
+use Rattle.fixtures.specs.declared.faults.FixtureFault.TheVariants as fixture
 use Rattle.flux_system.specs.declared.faults.LimitFault.{LimitFault}
 use Rattle.flux_system.specs.declared.faults.LimitFault.TheVariants.{FluxTooLarge, TooManyTakes}
 use Rattle.lm63_reader.specs.declared.faults.LmFault.{LmFault}
@@ -10,12 +12,16 @@ use Rattle.lm63_reader.specs.declared.faults.LmFault.TheVariants as lm
 use Rattle.lux_io.specs.Sinks.{SinkState, Wrote, WroteSome}
 use Rattle.lux_num.specs.declared.decimal.NumFault.{NumFault}
 use Rattle.lux_num.specs.declared.decimal.NumFault.TheVariants as number
+use Rattle.project_file.specs.declared.faults.ProjFault.{ProjFault}
+use Rattle.project_file.specs.declared.faults.ProjFault.TheVariants as project
+use Rattle.room_patches.specs.declared.faults.RoomFault.{RoomFault}
+use Rattle.room_patches.specs.declared.faults.RoomFault.TheVariants as room
 use Rattle.system_file.specs.declared.faults.SysFault.{SysFault}
 use Rattle.system_file.specs.declared.faults.SysFault.TheVariants as system
 use Rattle.lux_top.specs.declared.answers.Answer.{Answer}
 use Rattle.lux_top.specs.declared.answers.PhotoFault.{PhotoFault}
 use Rattle.lux_top.specs.declared.answers.PhotoFault.TheVariants.{Lm, Ldt}
-use Rattle.lux_top.specs.declared.answers.Answer.TheVariants.{Done, Usage, Read, TooLong, System, Photometry, Limits, Write, Memory}
+use Rattle.lux_top.specs.declared.answers.Answer.TheVariants.{Done, Usage, Read, TooLong, Project, Room, Fixture, System, Photometry, Limits, Write, Memory}
 
 -- a fault's name in lower case, and its numbers
 abbrev pub text_of_system : SysFault → List ℕ
@@ -28,6 +34,28 @@ text_of_system system.Threshold = codes "threshold"
 text_of_system (system.Reflectance patch) = codes "reflectance " ++ decimal patch
 text_of_system (system.RowTotal patch) = codes "row total " ++ decimal patch
 text_of_system system.Memory = codes "memory"
+
+abbrev pub text_of_project : ProjFault → List ℕ
+text_of_project project.Toml = codes "toml"
+text_of_project project.Version = codes "version"
+text_of_project (project.Key name) = codes "key " ++ name
+text_of_project (project.Missing name) = codes "missing " ++ name
+text_of_project (project.Kind name) = codes "kind " ++ name
+text_of_project (project.Range name) = codes "range " ++ name
+text_of_project project.Memory = codes "memory"
+
+abbrev pub text_of_room : RoomFault → List ℕ
+text_of_room room.Size = codes "size"
+text_of_room room.Counts = codes "counts"
+text_of_room (room.Patches n) = codes "patches " ++ decimal n
+text_of_room room.Reflectance = codes "reflectance"
+text_of_room room.Memory = codes "memory"
+
+abbrev pub text_of_fixture : FixtureFault → List ℕ
+text_of_fixture (fixture.Outside at) = codes "outside " ++ decimal at
+text_of_fixture (fixture.Rotation at) = codes "rotation " ++ decimal at
+text_of_fixture (fixture.Level at) = codes "level " ++ decimal at
+text_of_fixture fixture.Memory = codes "memory"
 
 abbrev pub text_of_number : NumFault → List ℕ
 text_of_number (number.BadByte at) = codes "bad byte " ++ decimal at
@@ -81,6 +109,9 @@ text_of (Done ledger worst) = []
 text_of Usage = codes "usage: lux solve FILE | photo FILE | run PROJECT [--shooters N] [--csv] | audit SYSTEM LEDGER | gen NUMBER"
 text_of (Read name) = codes "cannot read " ++ name
 text_of (TooLong name) = codes "file too long: " ++ name
+text_of (Project fault) = codes "project: " ++ text_of_project fault
+text_of (Room fault) = codes "room: " ++ text_of_room fault
+text_of (Fixture fault) = codes "luminaire: " ++ text_of_fixture fault
 text_of (System fault) = codes "system: " ++ text_of_system fault
 text_of (Photometry name fault) = codes "photometry " ++ name ++ codes ": " ++ text_of_photometry fault
 text_of (Limits fault) = codes "limit: " ++ text_of_limit fault

@@ -13,7 +13,7 @@ use Rattle.lux_top.specs.Notes.{Noted}
 use Rattle.lux_top.specs.Photographing.{photometry_in, most_photometry_bytes}
 use Rattle.lux_top.specs.PhotometryText.{photometry_text}
 use Rattle.lux_top.specs.Ready.{Writing}
-use Rattle.lux_top.specs.Runs.{World, Refused}
+use Rattle.lux_top.specs.Runs.{World, Row}
 
 -- the file has a text that says this photometry
 pub record IsPhotometryOf (shelf : ShelfState) (name : List ℕ) (photometry : Photometry) : Type 0 where
@@ -48,9 +48,7 @@ PhotoRefusal name before after _ = ⊥
 
 -- the row of each answer of `photo`
 abbrev pub PhotoRow : List ℕ → World → World → Answer → Type 0
-PhotoRow name before after (answer.Done ledger worst) = IsDeveloped name before after ledger worst
-PhotoRow name before after answer.Write = IsDevelopedInPart name before after
-PhotoRow name before after refusal = Refused refusal before after × PhotoRefusal name before.shelf after.shelf refusal
+PhotoRow name before after = Row (IsDeveloped name before after) (IsDevelopedInPart name before after) (PhotoRefusal name before.shelf after.shelf) before after
 
 -- why a text is refused
 abbrev pub PhotometryRefusal : List ℕ → List ℕ → Answer → Type 0

@@ -60,7 +60,7 @@ pub record Takes {A : Type 0} (plan : Plan A) (before after : ShelfState) (resul
 abbrev pub Gives : {A : Type 0} → Plan A → Result A Answer → Type 0
 Gives plan result = (shelf : ShelfState) → Takes plan shelf shelf result
 
--- the bytes of a vector
-abbrev pub items_of : Result (Vec ℕ Global) Answer → Result (List ℕ) Answer
+-- the elements of a vector
+abbrev pub items_of : {X : Type 0} → Result (Vec X Global) Answer → Result (List X) Answer
 items_of (Ok bytes) = Ok bytes.items
 items_of (Err answer) = Err answer

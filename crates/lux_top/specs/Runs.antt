@@ -1,12 +1,14 @@
 -- What a call promises that follows a plan.
 use Rattle.std.specs.Prelude.{◌≡◌, ◌⊎◌, ℕ, List, length, Option, Some, IfSome, IsSomeAnd, MatchBool, nat_le, Result, Ok, Err}
+use Rattle.flux_ledger.specs.declared.ledger.Ledger.{Ledger}
 use Rattle.lux_io.specs.Shelves.{ShelfState, Rose}
 use Rattle.lux_io.specs.Sinks.{SinkState, Wrote, WroteSome}
 use Rattle.lux_io.specs.declared.blames.Count.{Count}
 use Rattle.lux_io.specs.declared.blames.Count.TheVariants.{Faults, Overlong}
 use Rattle.lux_top.specs.declared.answers.Answer.{Answer}
-use Rattle.lux_top.specs.declared.answers.Answer.TheVariants.{TooLong, Write, Memory}
+use Rattle.lux_top.specs.declared.answers.Answer.TheVariants.{Done, TooLong, Write, Memory}
 use Rattle.lux_top.specs.declared.answers.Outcome.{Outcome}
+use Rattle.lux_top.specs.declared.answers.Worst.{Worst}
 use Rattle.lux_top.specs.Answers.{Cause, Nothing, Contents, FailedRead, OverlongRead, FailedWrite, cause_of, outcome_of}
 use Rattle.lux_top.specs.Notes.{Noted}
 use Rattle.lux_top.specs.Plans.{Plan, Give, Refuse, ReadFile, Choose, Takes}
@@ -25,6 +27,13 @@ world shelf out notes = record { shelf = shelf; out = out; notes = notes }
 pub record Refused (answer : Answer) (before after : World) : Type 0 where
   pub quiet : after.out ≡ before.out
   pub noted : Noted answer before.notes after.notes
+
+-- The row of each answer of a command: at `Done` it is completed with this ledger and these verdicts; at `Write` it was cut
+-- off; and each other answer is a refusal, for a reason.
+abbrev pub Row : (Option Ledger → Worst → Type 0) → Type 0 → (Answer → Type 0) → World → World → Answer → Type 0
+Row Completed CutOff Reason before after (Done ledger worst) = Completed ledger worst
+Row Completed CutOff Reason before after Write = CutOff
+Row Completed CutOff Reason before after answer = Refused answer before after × Reason answer
 
 -- all bytes were written and no note was put; or the output had a fault, took a part of them from the front, and that was noted
 abbrev pub Writes : Writing → World → World → Outcome → Type 0

@@ -18,7 +18,7 @@ use Rattle.lux_top.specs.declared.answers.Worst.TheVariants.{AllPass}
 use Rattle.lux_top.specs.Notes.{Noted}
 use Rattle.lux_top.specs.Ready.{Writing}
 use Rattle.lux_top.specs.Solving.{ledger_with_intervals, most_system_bytes}
-use Rattle.lux_top.specs.Runs.{World, Refused}
+use Rattle.lux_top.specs.Runs.{World, Row}
 
 -- the file has a text that says this flux system and this direct flux
 pub record IsFileProblem (shelf : ShelfState) (name : List ℕ) (problem : FluxSystem × List ℕ) : Type 0 where
@@ -40,26 +40,26 @@ pub record IsSettledLedger (system : FluxSystem) (flux : List ℕ) (ledger : Led
   pub one_account : ledger.parts ≡ 1
   pub encloses : EnclosesAll system ledger
 
--- the ledger is the settled one of what the file says, which is within the limits
-pub record IsSolvedBy (shelf : ShelfState) (name : List ℕ) (ledger : Ledger) : Type 0 where
+-- the ledger is the settled one of a problem that is said, which is within the limits
+pub record IsSolvedBy (Says : FluxSystem × List ℕ → Type 0) (ledger : Ledger) : Type 0 where
   pub problem : FluxSystem × List ℕ
-  pub is_read : IsFileProblem shelf name problem
+  pub is_said : Says problem
   pub within_limits : IsWithinLimits problem
   pub is_settled : IsSettledLedger problem.0 problem.1 ledger
 
--- the file was solved, all of the ledger's text with its intervals was written, and no note was put
-pub record IsSolved (name : List ℕ) (before after : World) (answered : Option Ledger) (worst : Worst) : Type 0 where
+-- a problem that is said was solved, all of the ledger's text with its intervals was written, and no note was put
+pub record IsSolved (Says : FluxSystem × List ℕ → Type 0) (before after : World) (answered : Option Ledger) (worst : Worst) : Type 0 where
   pub ledger : Ledger
   pub is_answered : answered ≡ Some ledger
-  pub solved : IsSolvedBy before.shelf name ledger
+  pub solved : IsSolvedBy Says ledger
   pub all_pass : worst ≡ AllPass
   pub wrote : Wrote before.out after.out (ledger_with_intervals solved.problem.0 ledger)
   pub no_note : after.notes ≡ before.notes
 
--- the file was solved, and the output had a fault and took a part of that text from the front
-pub record IsCutOff (name : List ℕ) (before after : World) : Type 0 where
+-- it was solved, and the output had a fault and took a part of that text from the front
+pub record IsCutOff (Says : FluxSystem × List ℕ → Type 0) (before after : World) : Type 0 where
   pub ledger : Ledger
-  pub solved : IsSolvedBy before.shelf name ledger
+  pub solved : IsSolvedBy Says ledger
   pub wrote : WroteSome before.out after.out (ledger_with_intervals solved.problem.0 ledger)
   pub noted : Noted Write before.notes after.notes
 
@@ -75,9 +75,8 @@ SolveRefusal name before after _ = ⊥
 
 -- the row of each answer of `solve`
 abbrev pub SolveRow : List ℕ → World → World → Answer → Type 0
-SolveRow name before after (Done ledger worst) = IsSolved name before after ledger worst
-SolveRow name before after Write = IsCutOff name before after
-SolveRow name before after answer = Refused answer before after × SolveRefusal name before.shelf after.shelf answer
+SolveRow name before after =
+    Row (IsSolved (IsFileProblem before.shelf name) before after) (IsCutOff (IsFileProblem before.shelf name) before after) (SolveRefusal name before.shelf after.shelf) before after
 
 -- why a text is refused
 abbrev pub TextRefusal : List ℕ → Answer → Type 0
@@ -101,8 +100,8 @@ pub record IsReadyFor (problem : FluxSystem × List ℕ) (writing : Writing) : T
   pub is_settled : IsSettledLedger problem.0 problem.1 ledger
   pub carries : Carries problem.0 ledger writing
 
--- what is ready to be written is the settled ledger of the file, and its text
-pub record IsReady (shelf : ShelfState) (name : List ℕ) (writing : Writing) : Type 0 where
+-- what is ready to be written is the settled ledger of a problem that is said, and its text
+pub record IsReady (Says : FluxSystem × List ℕ → Type 0) (writing : Writing) : Type 0 where
   pub ledger : Ledger
-  pub solved : IsSolvedBy shelf name ledger
+  pub solved : IsSolvedBy Says ledger
   pub carries : Carries solved.problem.0 ledger writing

@@ -3,11 +3,12 @@ use Rattle.std.specs.Prelude.{ℕ, ◌==◌, ◌&&◌, not, nat_le, if◌then◌
 use Rattle.std.specs.Option.{option_map}
 use Rattle.std.specs.Str.{bytes_eq}
 use Rattle.lux_top.specs.declared.commands.Command.{Command}
-use Rattle.lux_top.specs.declared.commands.Command.TheVariants.{Solve, Photo}
+use Rattle.lux_top.specs.declared.commands.Command.TheVariants.{Solve, Photo, Run}
 use Rattle.lux_top.specs.declared.answers.Answer.TheVariants.{Usage}
 use Rattle.lux_top.specs.Photographing.{photographing}
 use Rattle.lux_top.specs.Plans.{Plan, Refuse}
 use Rattle.lux_top.specs.Ready.{Writing}
+use Rattle.lux_top.specs.Running.{running}
 use Rattle.lux_top.specs.Solving.{solving}
 
 -- the word at a place, or an empty one
@@ -33,6 +34,7 @@ abbrev pub command_of : List (List ℕ) → Option Command
 command_of words = first_command (
     option_map Solve (one_file words (codes "solve"))
     ∷ option_map Photo (one_file words (codes "photo"))
+    ∷ option_map Run (one_file words (codes "run"))
     ∷ [])
 
 -- what each command reads and answers; other words are answered by the usage
@@ -40,3 +42,4 @@ abbrev pub plan_of : Option Command → Plan Writing
 plan_of None = Refuse Usage
 plan_of (Some (Solve name)) = solving name
 plan_of (Some (Photo name)) = photographing name
+plan_of (Some (Run name)) = running name

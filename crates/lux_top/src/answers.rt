@@ -1,9 +1,16 @@
 // What a call may answer.
+ghost use Rattle.std.specs.Prelude.{◌≡◌};
+ghost use Rattle.lux_top.specs.declared.answers.Answer.TheVariants.{Memory};
+
 use eulumdat_reader::LdtFault;
+use fixtures::FixtureFault;
 use flux_ledger::Ledger;
 use flux_system::LimitFault;
 use lm63_reader::LmFault;
 use lux_io::Name;
+use project_file::ProjFault;
+use room_patches::RoomFault;
+use std::alloc::AllocFailed;
 use system_file::SysFault;
 use thiserror::Error;
 
@@ -44,6 +51,12 @@ pub enum Answer {
     TooLong {
         name: Name,
     },
+    /// The file is no project, for this reason.
+    Project(ProjFault),
+    /// The project's room is not valid, for this reason.
+    Room(RoomFault),
+    /// A luminaire of the project can't be placed in its room, for this reason.
+    Fixture(FixtureFault),
     /// The file is no system text, for this reason.
     System(SysFault),
     /// This file is no photometry, for this reason.
@@ -57,6 +70,14 @@ pub enum Answer {
     Write,
     /// No memory was found.
     Memory,
+}
+
+impl<T: Drop> From<AllocFailed<T>> for Answer {
+    ghost from_gives = { λ _ answer. answer ≡ Memory };
+
+    fn from(_error: AllocFailed<T>) -> Answer {
+        Answer::Memory
+    }
 }
 
 /// An answer and its exit status.

@@ -12,6 +12,8 @@ pub enum Command {
     Solve(Name),
     /// `photo FILE`
     Photo(Name),
+    /// `run PROJECT`
+    Run(Name),
 }
 
 // The word at a place, or an empty one.
@@ -54,6 +56,9 @@ pub fn read_words(alloc: Global, words: &[String]) -> Result<Option<Command>, Al
     }
     if let Some(name) = file_after(alloc, words, "photo")? {
         return Ok(Some(Command::Photo(name)));
+    }
+    if let Some(name) = file_after(alloc, words, "run")? {
+        return Ok(Some(Command::Run(name)));
     }
     Ok(None)
 }

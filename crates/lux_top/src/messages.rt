@@ -1,13 +1,16 @@
 // The note and the status of each answer.
 ghost use Rattle.std.specs.Prelude.{◌≡◌, Some, IfOk, string_bytes};
 ghost use Rattle.lux_top.specs.Answers.{status_of, outcome_of};
-ghost use Rattle.lux_top.specs.Notes.{note, text_of, text_of_system, text_of_number, text_of_lm, text_of_ldt, text_of_photometry, text_of_limit};
+ghost use Rattle.lux_top.specs.Notes.{note, text_of, text_of_project, text_of_room, text_of_fixture, text_of_system, text_of_number, text_of_lm, text_of_ldt, text_of_photometry, text_of_limit};
 
 use crate::{Answer, Outcome, PhotoFault, Worst};
 use eulumdat_reader::LdtFault;
+use fixtures::FixtureFault;
 use flux_system::LimitFault;
 use lm63_reader::LmFault;
 use lux_num::NumFault;
+use project_file::ProjFault;
+use room_patches::RoomFault;
 use std::alloc::{AllocError, Global};
 use std::fmt;
 use system_file::SysFault;
@@ -30,6 +33,62 @@ impl fmt::Display for SystemWords {
             SysFault::Reflectance { patch } => write!(f, "reflectance {patch}"),
             SysFault::RowTotal { patch } => write!(f, "row total {patch}"),
             SysFault::Memory => write!(f, "memory"),
+        }
+    }
+}
+
+// A refusal of a project in the words of a note.
+#[derive(Clone, Copy)]
+struct ProjectWords<'a>(&'a ProjFault);
+
+impl fmt::Display for ProjectWords<'_> {
+    ghost output = { λ words. Some (text_of_project words.0.now) };
+
+    fn fmt<W: fmt::Write>(&self, f: &mut fmt::Formatter<W>) -> fmt::Result {
+        let (before, name) = match self.0 {
+            ProjFault::Toml => ("toml", ""),
+            ProjFault::Version => ("version", ""),
+            ProjFault::Key { name } => ("key ", name.as_str()),
+            ProjFault::Missing { name } => ("missing ", name.as_str()),
+            ProjFault::Kind { name } => ("kind ", name.as_str()),
+            ProjFault::Range { name } => ("range ", name.as_str()),
+            ProjFault::Memory => ("memory", ""),
+        };
+        write!(f, "{before}{name}")
+    }
+}
+
+// A refusal of a room in the words of a note.
+#[derive(Clone, Copy)]
+struct RoomWords(RoomFault);
+
+impl fmt::Display for RoomWords {
+    ghost output = { λ words. Some (text_of_room words.0) };
+
+    fn fmt<W: fmt::Write>(&self, f: &mut fmt::Formatter<W>) -> fmt::Result {
+        match self.0 {
+            RoomFault::Size => write!(f, "size"),
+            RoomFault::Counts => write!(f, "counts"),
+            RoomFault::Patches { n } => write!(f, "patches {n}"),
+            RoomFault::Reflectance => write!(f, "reflectance"),
+            RoomFault::Memory => write!(f, "memory"),
+        }
+    }
+}
+
+// A refusal of a luminaire in the words of a note.
+#[derive(Clone, Copy)]
+struct FixtureWords(FixtureFault);
+
+impl fmt::Display for FixtureWords {
+    ghost output = { λ words. Some (text_of_fixture words.0) };
+
+    fn fmt<W: fmt::Write>(&self, f: &mut fmt::Formatter<W>) -> fmt::Result {
+        match self.0 {
+            FixtureFault::Outside { at } => write!(f, "outside {at}"),
+            FixtureFault::Rotation { at } => write!(f, "rotation {at}"),
+            FixtureFault::Level { at } => write!(f, "level {at}"),
+            FixtureFault::Memory => write!(f, "memory"),
         }
     }
 }
@@ -165,6 +224,18 @@ impl fmt::Display for Answer {
                 let name = name.as_str();
                 write!(f, "file too long: {name}")
             }
+            Answer::Project(fault) => {
+                let words = ProjectWords(fault);
+                write!(f, "project: {words}")
+            }
+            Answer::Room(fault) => {
+                let words = RoomWords(*fault);
+                write!(f, "room: {words}")
+            }
+            Answer::Fixture(fault) => {
+                let words = FixtureWords(*fault);
+                write!(f, "luminaire: {words}")
+            }
             Answer::System(fault) => {
                 let words = SystemWords(*fault);
                 write!(f, "system: {words}")
@@ -201,7 +272,7 @@ fn status_of_answer(answer: &Answer) -> u8
             Worst::SomeUndecided => 2,
         },
         Answer::Usage => 3,
-        Answer::System(_) => 4,
+        Answer::Project(_) | Answer::Room(_) | Answer::Fixture(_) | Answer::System(_) => 4,
         Answer::Photometry { .. } => 5,
         Answer::Read { .. } | Answer::TooLong { .. } => 6,
         Answer::Write => 7,

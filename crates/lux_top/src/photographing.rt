@@ -1,5 +1,5 @@
 // `photo FILE`: a photometry file is read, and its web written.
-ghost use Rattle.std.specs.Prelude.{◌≡◌, ◌<◌, ◌^◌, length, Ok, Err, IfOk, IfErr, IfSome};
+ghost use Rattle.std.specs.Prelude.{◌≡◌, ◌<◌, ◌^◌, length, Ok, Err, IfOk, IfErr, IfSome, OnOk};
 ghost use Rattle.lux_top.specs.Photographing.{is_lm63, photometry_in, photometry_of, photometry_file, developed, photographing};
 ghost use Rattle.lux_top.specs.PhotoRows.{IsPhotometryOf, IsTextOf, IsPrint, PhotometryRefusal, PhotoRefusal, PhotoRow};
 ghost use Rattle.lux_top.specs.Plans.{Takes, Gives};
@@ -54,12 +54,13 @@ fn decide<S: Shelf>(alloc: Global, name: &Name, shelf: &mut S) -> Result<Ready, 
 }
 
 // The photometry of a file.
-fn read_photometry<S: Shelf>(
+pub(crate) fn read_photometry<S: Shelf>(
     alloc: Global,
     name: &Name,
     shelf: &mut S,
 ) -> Result<Photometry, Answer>
     ensures taken { Takes (photometry_file name.now) (S.state shelf.old) (S.state shelf.new) result }
+    ensures same { OnOk result (S.state shelf.new ≡ S.state shelf.old) }
     ensures read { IfOk result (IsPhotometryOf (S.state shelf.old) name.now) }
     ensures refused { IfErr result (PhotoRefusal name.now (S.state shelf.old) (S.state shelf.new)) }
 {

@@ -1,5 +1,5 @@
 // One file of a command.
-ghost use Rattle.std.specs.Prelude.{◌≡◌, ◌≤◌, ◌⊎◌, length, IfOk};
+ghost use Rattle.std.specs.Prelude.{◌≡◌, ◌≤◌, ◌⊎◌, length, IfOk, OnOk};
 ghost use Rattle.lux_top.specs.Plans.{file, Takes, items_of};
 
 use crate::Answer;
@@ -42,6 +42,7 @@ pub(crate) fn read_file<S: Shelf>(
     shelf: &mut S,
 ) -> Result<Vec<u8>, Answer>
     ensures taken { Takes (file name.now limit) (S.state shelf.old) (S.state shelf.new) (items_of result) }
+    ensures same { OnOk result (S.state shelf.new ≡ S.state shelf.old) }
     ensures short { IfOk result (λ bytes. length bytes.items ≤ limit) }
 {
     let mut bytes = Vec::new(alloc);

@@ -50,7 +50,7 @@ pub fn solve<S: Shelf, K: Sink, N: Sink>(
 
 fn decide<S: Shelf>(alloc: Global, name: &Name, shelf: &mut S) -> Result<Ready, Answer>
     ensures taken { Takes (solving name.now) (S.state shelf.old) (S.state shelf.new) result }
-    ensures ready { IfOk result (IsReady (S.state shelf.old) name.now) }
+    ensures ready { IfOk result (IsReady (IsFileProblem (S.state shelf.old) name.now)) }
     ensures refused { IfErr result (SolveRefusal name.now (S.state shelf.old) (S.state shelf.new)) }
 {
     match read_problem(alloc, name, shelf) {
@@ -99,7 +99,7 @@ fn accept_text(alloc: Global, text: Vec<u8>) -> Result<Problem, Answer>
 }
 
 // The problem once more, where it is within the limits.
-fn limit(problem: Problem) -> Result<Problem, Answer>
+pub(crate) fn limit(problem: Problem) -> Result<Problem, Answer>
     ensures given { Gives (within_limits problem) result }
     ensures same { IfOk result (λ limited. limited ≡ problem) }
     ensures limited { IfOk result IsWithinLimits }
@@ -112,7 +112,7 @@ fn limit(problem: Problem) -> Result<Problem, Answer>
 }
 
 // The settled ledger, and its text.
-fn settle_problem(alloc: Global, problem: Problem) -> Result<Ready, Answer>
+pub(crate) fn settle_problem(alloc: Global, problem: Problem) -> Result<Ready, Answer>
     requires { IsWithinLimits problem }
     ensures given { Gives (solved problem) result }
     ensures ready { IfOk result (IsReadyFor problem) }

@@ -7,6 +7,7 @@ ghost use Rattle.lux_top.specs.Words.{command_of, plan_of};
 use crate::commands::{Command, read_words};
 use crate::endings::conclude;
 use crate::photographing::photo;
+use crate::running::run;
 use crate::solving::solve;
 use crate::{Answer, Outcome};
 use lux_io::{Gate, Shelf, Sink};
@@ -64,5 +65,6 @@ fn obey<S: Shelf, K: Sink, N: Sink>(
     match command {
         Command::Solve(name) => solve(alloc, &name, shelf, out, notes),
         Command::Photo(name) => photo(alloc, &name, shelf, out, notes),
+        Command::Run(name) => run(alloc, &name, shelf, out, notes),
     }
 }

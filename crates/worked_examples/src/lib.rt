@@ -5,6 +5,8 @@
 #![tactic(auto)]
 
 #[cfg(test)]
+mod directions;
+#[cfg(test)]
 mod eulumdat;
 #[cfg(test)]
 mod exact;
@@ -22,6 +24,10 @@ mod lm63;
 mod numbers;
 #[cfg(test)]
 mod photometry;
+#[cfg(test)]
+mod rooms;
+#[cfg(test)]
+mod running;
 #[cfg(test)]
 mod solving;
 #[cfg(test)]

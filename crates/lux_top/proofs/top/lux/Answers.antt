@@ -1,7 +1,7 @@
 use Rattle.std.proofs.Common.{refl}
 use Rattle.lux_top.proofs.Caused.{follows_of}
 use Rattle.lux_top.proofs.Plain.{plain_plan}
-use Rattle.lux_top.proofs.Rows.{memory_row, usage_row}
+use Rattle.lux_top.proofs.CommandLines.{memory_row, usage_row}
 use Rattle.lux_top.proofs.Taking.{takes_memory, takes_refuse}
 use Rattle.lux_top.proofs.top.lux.Goals as goal
 
