@@ -47,6 +47,9 @@ for luminaire in batwing street spot; do
   run "$luminaire-eulumdat" "$luminaire-eulumdat.photo.txt" "" 0 photo "$luminaire.ldt"
 done
 run small-eulumdat small.photo.txt "" 0 photo small.ldt
+for project in cube office classroom hall; do
+  run "$project-project" "$project.run.txt" "" 0 run "$project.toml"
+done
 
 for case in cases/*/; do
   name=$(basename "$case")
@@ -81,12 +84,25 @@ truncate -s 4194304 most.ies
 run most-photometry-bytes nothing "lux: photometry most.ies: short 2" 5 photo most.ies
 truncate -s 4194305 more.ies
 run too-long-photometry nothing "lux: file too long: more.ies" 6 photo more.ies
+cp "$here/cube.toml" "$here/one.ies" .
+run folder-as-project nothing "lux: cannot read folder" 6 run folder
+{ cat cube.toml; head -c $((4194304 - $(wc -c <cube.toml))) /dev/zero | tr '\0' '\n'; } >most.toml
+run most-project-bytes "$here/cube.run.txt" "" 0 run most.toml
+echo >>most.toml
+run too-long-project nothing "lux: file too long: most.toml" 6 run most.toml
+sed 's/one\.ies/more.ies/' cube.toml >more.toml
+run too-long-photometry-of-project nothing "lux: file too long: more.ies" 6 run more.toml
+sed 's/one\.ies/folder/' cube.toml >folder.toml
+run folder-as-photometry-of-project nothing "lux: cannot read folder" 6 run folder.toml
 
 "$program" solve two.txt >&- 2>"$room/stderr"
 echo $? >"$room/status"
 echo "lux: cannot write" >"$room/note"
 : >"$room/stdout"
 compare closed-output nothing "$room/note" 7
+"$program" run cube.toml >&- 2>"$room/stderr"
+echo $? >"$room/status"
+compare closed-output-of-run nothing "$room/note" 7
 if [ -c /dev/full ]; then
   "$program" solve two.txt >/dev/full 2>"$room/stderr"
   echo $? >"$room/status"
