@@ -1,5 +1,6 @@
--- Transfer shares: how the flux that leaves a patch falls on the patches of its room, in parts of 10^9. The rule is this project's own: it looks at
--- the centres of patches alone, and makes each row whole by its own sum. So shares are no true form factors, and they need not be reciprocal.
+-- Transfer shares: how the flux that leaves a patch falls on the patches of its room, in parts of 10^9. The rule is this
+-- project's own: it looks at the centres of patches alone, and makes each row whole by its own sum. So shares are no
+-- true form factors, and they need not be reciprocal.
 use Rattle.std.specs.Prelude.{ℕ, ◌-◌, ◌*◌, ◌/◌, ◌^◌, ◌==◌, ◌&&◌, nat_lt, if◌then◌else◌, List, [], map, sum, option_map, unwrap_or, slice_get}
 use Rattle.std.specs.List.{flat_map}
 use Rattle.room_patches.specs.declared.spec.RoomSpec.{RoomSpec}
@@ -12,9 +13,10 @@ use Rattle.flux_system.specs.System.{FluxSystem}
 abbrev pub ahead : Patch → Patch → ℕ
 ahead from to = in_front from to.centre
 
--- what the flux from one patch to another weighs: the two cosines times the other's area over the square of the distance of the centres, times 10^15
--- and cut. Lengths count half-millimetres and areas square millimetres, since a constant factor makes no difference to shares. The weight is 0 unless
--- each centre lies before the plane of the other patch, and so it is from a patch to itself, whose centre lies in its own plane.
+-- what the flux from one patch to another weighs: the two cosines times the other's area over the square of the distance
+-- of the centres, times 10^15 and cut; lengths count half-millimetres and areas square millimetres. The weight is 0
+-- unless each centre lies in front of the other patch, and so it is from a patch to itself, whose centre lies in its own
+-- plane.
 unfoldable pub weight : Patch → Patch → ℕ
 weight from to =
     if nat_lt 0 (ahead from to) && nat_lt 0 (ahead to from)

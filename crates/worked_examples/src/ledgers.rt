@@ -1,12 +1,12 @@
 // Ledgers: settled, and as text.
 ghost use Rattle.std.specs.Prelude.{◌≡◌, ◌∷◌, [], IfOk};
 
-use crate::texts::TWO_PATCHES_LEDGER;
 use flux_ledger::{Amounts, Ledger, ledger_text};
 use flux_system::System;
 use shot_core::{Settler, serial, settle};
 use std::alloc::{AllocError, Global};
 use std::test::Fail;
+use worked_texts::TWO_PATCHES_LEDGER;
 
 #[test]
 fn two_patches_settle_by_four_takes(rt: HostRuntime) -> Result<(), Fail> {

@@ -1,10 +1,10 @@
 // `run` over files in memory: what it writes, what it notes, and its status.
 use crate::fakes::file;
-use crate::texts::with_line;
 use lux_io::{FreeGate, MemShelf, MemSink, Name};
 use lux_top::{Answer, lux, run};
 use project_file::{ProjFault, read_project};
 use std::test::Fail;
+use worked_texts::with_line;
 
 // A metre of a cube with a luminaire in its middle.
 const CUBE: [&str; 18] = [

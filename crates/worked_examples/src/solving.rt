@@ -1,10 +1,10 @@
 // `solve` over files in memory: what it writes, what it notes, and its status.
 use crate::fakes::file;
-use crate::texts::{TWO_PATCHES, TWO_PATCHES_SOLVED};
 use lux_io::{FreeGate, MemShelf, MemSink, Name};
 use lux_top::{Answer, Outcome, Worst, lux, solve};
 use std::alloc::Global;
 use std::test::Fail;
+use worked_texts::{TWO_PATCHES, TWO_PATCHES_SOLVED};
 
 const USAGE: &str =
     "lux: usage: lux solve FILE | photo FILE | run PROJECT [--shooters N] [--csv] | audit SYSTEM LEDGER | gen NUMBER\n";

@@ -1,10 +1,10 @@
 // LM-63 files: one small file, and what another text on one of its lines makes of it.
-use crate::texts::{first_lines, with_line};
 use lm63_reader::{LmFault, read_lm63};
 use lux_num::NumFault;
 use photo_web::{PhotoKind, Photometry, SymKind};
 use std::alloc::Global;
 use std::test::Fail;
+use worked_texts::{first_lines, with_line};
 
 // One plane is stored, with three values.
 const LINES: [&str; 9] = [

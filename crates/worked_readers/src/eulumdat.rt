@@ -1,10 +1,10 @@
 // EULUMDAT files: one small file, and what another text on one of its lines makes of it.
-use crate::texts::{first_lines, with_line};
 use eulumdat_reader::{LdtFault, read_ldt};
 use lux_num::NumFault;
 use photo_web::{PhotoKind, Photometry, SymKind};
 use std::alloc::Global;
 use std::test::Fail;
+use worked_texts::{first_lines, with_line};
 
 // Planes at 270, 0 and 90 degrees are stored, two values each.
 const LINES: [&str; 54] = [

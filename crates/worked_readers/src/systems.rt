@@ -1,8 +1,8 @@
 // Flux systems and system texts.
-use crate::texts::{TWO_PATCHES, first_lines, with_line};
 use flux_system::{LimitFault, System, SystemFault};
 use std::test::Fail;
 use system_file::{SysFault, read_system};
+use worked_texts::{TWO_PATCHES, first_lines, with_line};
 
 // Two patches that face each other, line by line.
 const LINES: [&str; 7] = [
