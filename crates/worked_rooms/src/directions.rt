@@ -1,10 +1,7 @@
 // Angles, bearings, intensities between the stored directions, and beams of placed luminaires.
-ghost use Rattle.std.specs.Prelude.{IfOk};
-ghost use Rattle.fixtures.specs.Fixtures.{IsPlaced};
-
 use direct_flux::beam;
 use direction_table::{angle, bearing};
-use fixtures::{Fixture, FixtureSpec, place};
+use fixtures::{FixtureSpec, place};
 use intensity::intensity;
 use photo_web::Web;
 use room_patches::{Room, RoomSpec};
@@ -115,36 +112,17 @@ fn an_intensity_stands_between_the_stored_ones(rt: HostRuntime) -> Result<(), Fa
     Ok(())
 }
 
-// A luminaire in the middle of a hall, 2.5 m up.
-fn hung(alloc: Global, rotation: u32, level: u32) -> Result<Fixture, Fail>
-    ensures { IfOk result IsPlaced }
-{
-    let hall = RoomSpec {
-        width: 6_000,
-        depth: 4_000,
-        height: 3_000,
-        nx: 1,
-        ny: 1,
-        nz: 1,
-        floor: 200,
-        ceiling: 700,
-        walls: 500,
-    };
-    let room = Room::new(alloc, hall)?;
-    let asked = FixtureSpec {
-        web: 0,
-        x: 3_000,
-        y: 2_000,
-        z: 2_500,
-        rotation,
-        level,
-    };
-    let placed = place(alloc, &room, &[asked])?;
-    match placed.first() {
-        Some(fixture) => Ok(*fixture),
-        None => Err(Fail::from("no luminaire")),
-    }
-}
+const HALL: RoomSpec = RoomSpec {
+    width: 6_000,
+    depth: 4_000,
+    height: 3_000,
+    nx: 1,
+    ny: 1,
+    nz: 1,
+    floor: 200,
+    ceiling: 700,
+    walls: 500,
+};
 
 // The rotation, the level, a place in half-millimetres, and the intensity towards it in microcandela.
 const BEAMS: [(u32, u32, [i32; 3], u64); 13] = [
@@ -163,17 +141,28 @@ const BEAMS: [(u32, u32, [i32; 3], u64); 13] = [
     (359_999, 999, [11_500, 7_500, 6_000], 1_227_719),
 ];
 
+// The luminaire hangs in the middle of the hall, 2.5 m up.
 #[test]
 fn a_luminaire_shines_by_its_rotation_and_level(rt: HostRuntime) -> Result<(), Fail> {
     let alloc = rt.alloc();
     let web = sided(alloc)?;
-    for (rotation, level, place, expected) in BEAMS {
-        let fixture = hung(alloc, rotation, level)?;
-        let [x, y, z] = place;
+    let hall = Room::new(alloc, HALL)?;
+    for (rotation, level, towards, expected) in BEAMS {
+        let asked = FixtureSpec {
+            web: 0,
+            x: 3_000,
+            y: 2_000,
+            z: 2_500,
+            rotation,
+            level,
+        };
+        let placed = place(alloc, &hall, &[asked])?;
+        assert_eq!(rt; placed.len(), 1);
+        let [x, y, z] = towards;
         assert!(rt; 0 <= x && x <= 200_000);
         assert!(rt; 0 <= y && y <= 200_000);
         assert!(rt; 0 <= z && z <= 200_000);
-        assert_eq!(rt; beam(&fixture, &web, [x, y, z]), expected);
+        assert_eq!(rt; beam(&placed[0], &web, [x, y, z]), expected);
     }
     Ok(())
 }
