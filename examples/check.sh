@@ -47,9 +47,15 @@ for luminaire in batwing street spot; do
   run "$luminaire-eulumdat" "$luminaire-eulumdat.photo.txt" "" 0 photo "$luminaire.ldt"
 done
 run small-eulumdat small.photo.txt "" 0 photo small.ldt
-for project in cube office classroom hall; do
+for project in cube hall; do
   run "$project-project" "$project.run.txt" "" 0 run "$project.toml"
 done
+cd "$here/.." || exit 1
+for project in office classroom; do
+  folder=examples/$project
+  run "$project-project" "$folder/$project.run.txt" "" 0 run "$folder/$project.toml"
+done
+cd "$here" || exit 1
 
 for case in cases/*/; do
   name=$(basename "$case")

@@ -16,6 +16,8 @@ mod ledgers;
 #[cfg(test)]
 mod photometry;
 #[cfg(test)]
+mod projects;
+#[cfg(test)]
 mod running;
 #[cfg(test)]
 mod solving;

@@ -2,12 +2,11 @@
 use crate::fakes::file;
 use lux_io::{FreeGate, MemShelf, MemSink, Name};
 use lux_top::{Answer, lux, run};
-use project_file::{ProjFault, read_project};
 use std::test::Fail;
 use worked_texts::with_line;
 
-// A metre of a cube with a luminaire in its middle.
-const CUBE: [&str; 18] = [
+/// A metre of a cube with a luminaire in its middle.
+pub const CUBE: [&str; 18] = [
     "version = 1",
     "[room]",
     "width = 1000",
@@ -123,22 +122,5 @@ fn a_read_that_fails_names_its_file(rt: HostRuntime) -> Result<(), Fail> {
         assert_eq!(rt; shelf.faults(), 1);
         assert!(rt; out.written().is_empty());
     }
-    Ok(())
-}
-
-#[test]
-fn a_project_says_its_files_and_luminaires(rt: HostRuntime) -> Result<(), Fail> {
-    let alloc = rt.alloc();
-    let text = with_line(alloc, &CUBE, 0, "")?;
-    assert!(rt; text.len() < 1_000);
-    let project = read_project(alloc, &text)?;
-    assert_eq!(rt; project.room().walls, 500);
-    assert_eq!(rt; project.threshold(), 5_000_000_000);
-    assert_eq!(rt; project.files().len(), 1);
-    match project.fixtures().first() {
-        Some(fixture) => assert_eq!(rt; fixture.level, 1_000),
-        None => return Err(Fail::from("no luminaire")),
-    }
-    assert!(rt; matches!(read_project(alloc, b"version"), Err(ProjFault::Toml)));
     Ok(())
 }
