@@ -24,9 +24,9 @@ root_reaches root distance squared near next =
     ]
 
 -- what is received is no more than at the least distance, one half-millimetre before the plane
-pub received_limited : (intensity distance squared area root : ℕ) → intensity ≤ 1000000000000000 → 1 ≤ distance → distance * distance ≤ squared → squared * 1000000 < (root + 1) * (root + 1) → area ≤ 10000000000
+pub received_flux_limited : (intensity distance squared area root : ℕ) → intensity ≤ 1000000000000000 → 1 ≤ distance → distance * distance ≤ squared → squared * 1000000 < (root + 1) * (root + 1) → area ≤ 10000000000
     → 4000000 * intensity * distance * area / (squared * root) ≤ 40000000000000000000000000000
-received_limited intensity distance squared area root bright some near next extended =
+received_flux_limited intensity distance squared area root bright some near next extended =
     let times : intensity * area ≤ 1000000000000000 * 10000000000 = mul-le-mul bright extended in
     let sent : intensity * area * distance ≤ 10000000000000000000000000 * distance = mul-le-mul_right distance (omega arith) in
     let reach = root_reaches root distance squared near next in

@@ -4,7 +4,7 @@ use Rattle.std.specs.Prelude.{ℕ, ◌+◌, ◌-◌, ◌*◌, ◌/◌, ◌%◌, 
 use Rattle.lux_num.specs.Quotients.{root}
 use Rattle.photo_web.specs.Web.{PhotometricWeb}
 use Rattle.direction_table.specs.Directions.{angle, bearing}
-use Rattle.intensity.specs.Intensity.{interpolated}
+use Rattle.intensity.specs.Intensity.{interpolated_intensity}
 use Rattle.room_patches.specs.Places.{coordinate, gap}
 use Rattle.fixtures.specs.declared.fixture.Fixture.{Fixture}
 use Rattle.fixtures.specs.Fixtures.{place_of}
@@ -31,4 +31,4 @@ plane_towards fixture place = (bearing (offset fixture place 0) (offset fixture 
 
 -- the luminous intensity towards the place in microcandela, at the luminaire's level
 unfoldable pub beam : Fixture → PhotometricWeb → List ℤ → ℕ
-beam fixture web place = interpolated web (plane_towards fixture place) (gamma_towards fixture place) * fixture.level / 1000
+beam fixture web place = interpolated_intensity web (plane_towards fixture place) (gamma_towards fixture place) * fixture.level / 1000

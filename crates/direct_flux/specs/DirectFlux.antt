@@ -17,23 +17,23 @@ use Rattle.direct_flux.specs.Beam.{beam}
 
 -- the flux that arrives with an intensity (microcandela) from a place in front of a patch's plane by so many
 -- half-millimetres, at a squared distance in square half-millimetres
-abbrev pub received : ℕ → ℕ → ℕ → ℕ → ℕ
-received intensity distance squared area = 4 * 10 ^ 6 * intensity * distance * area / (squared * root (squared * 10 ^ 6))
+abbrev pub received_flux : ℕ → ℕ → ℕ → ℕ → ℕ
+received_flux intensity distance squared area = 4 * 10 ^ 6 * intensity * distance * area / (squared * root (squared * 10 ^ 6))
 
 -- the flux of one luminaire on a patch; a luminaire in the patch's plane or behind it sends nothing
 unfoldable pub flux_from : PhotometricWeb → Fixture → Patch → ℕ
 flux_from web fixture patch =
     if nat_lt 0 (in_front patch (place_of fixture))
-    then received (beam fixture web patch.centre) (in_front patch (place_of fixture)) (squared_distance (place_of fixture) patch.centre) patch.area
+    then received_flux (beam fixture web patch.centre) (in_front patch (place_of fixture)) (squared_distance (place_of fixture) patch.centre) patch.area
     else 0
 
 -- a web that is dark in all directions
-abbrev pub dark : PhotometricWeb
-dark = record { planes = []; gammas = []; values = [] }
+abbrev pub dark_web : PhotometricWeb
+dark_web = record { planes = []; gammas = []; values = [] }
 
 -- the flux of all luminaires on a patch, each with the web of its number
 unfoldable pub flux_on : List PhotometricWeb → List Fixture → Patch → ℕ
-flux_on webs fixtures patch = sum_by (λ fixture. flux_from (slice_index_or webs fixture.web dark) fixture patch) fixtures
+flux_on webs fixtures patch = sum_by (λ fixture. flux_from (slice_index_or webs fixture.web dark_web) fixture patch) fixtures
 
 -- the direct flux of each patch of a room
 abbrev pub direct_flux : RoomSpec → List Fixture → List PhotometricWeb → List ℕ

@@ -3,7 +3,7 @@ ghost use Rattle.std.specs.Prelude.{◌≡◌, ◌+◌, ◌*◌, ◌<◌, ◌≤
 ghost use Rattle.duties.specs.Duties.{Answers};
 ghost use Rattle.room_patches.specs.Patches.{IsPatch};
 ghost use Rattle.fixtures.specs.Fixtures.{IsPlaced};
-ghost use Rattle.direct_flux.specs.DirectFlux.{received, flux_from, flux_on, direct_flux, flux_duty};
+ghost use Rattle.direct_flux.specs.DirectFlux.{received_flux, flux_from, flux_on, direct_flux, flux_duty};
 
 use crate::{DirectFault, beam};
 use fixtures::Fixture;
@@ -41,7 +41,7 @@ pub fn direct(
     if sum > MOST_FLUX {
         return Err(DirectFault::FluxTooLarge { sum });
     }
-    Ok(narrowed(alloc, &flux)?)
+    Ok(narrow_amounts(alloc, &flux)?)
 }
 
 // The direct flux of each patch, however much it is.
@@ -80,7 +80,7 @@ fn total(amounts: &[u128]) -> u128
 
 // Amounts in 64 bits.
 #[tactic(auto, using(crate::proofs::Bounds::below_sum))]
-fn narrowed(alloc: Global, amounts: &[u128]) -> Result<Vec<u64>, AllocError>
+fn narrow_amounts(alloc: Global, amounts: &[u128]) -> Result<Vec<u64>, AllocError>
     requires { sum amounts.now ≤ 10 ^ 16 }
     ensures { IfOk result (λ narrow. narrow.items ≡ amounts.now) }
 {
@@ -122,7 +122,7 @@ fn flux_from(web: &Web, fixture: &Fixture, patch: &Patch) -> u128
         return 0;
     }
     let squared = squared_distance(place, patch.centre);
-    received(
+    received_flux(
         beam(fixture, web, patch.centre),
         distance,
         squared,
@@ -131,15 +131,15 @@ fn flux_from(web: &Web, fixture: &Fixture, patch: &Patch) -> u128
 }
 
 // The flux that arrives with an intensity from a distance in front of a patch's plane, at a squared distance.
-#[tactic(auto, using(crate::proofs::Bounds::received_limited))]
-fn received(intensity: u64, distance: u64, squared: u64, area: u64) -> u128
+#[tactic(auto, using(crate::proofs::Bounds::received_flux_limited))]
+fn received_flux(intensity: u64, distance: u64, squared: u64, area: u64) -> u128
     requires intensity { intensity ≤ 10 ^ 15 }
     requires in_front { 1 ≤ distance }
     requires near { distance ≤ 200000 }
     requires squared { distance * distance ≤ squared }
     requires limited { squared ≤ 120000000000 }
     requires area { area ≤ 10 ^ 10 }
-    ensures value { result ≡ received intensity distance squared area }
+    ensures value { result ≡ received_flux intensity distance squared area }
     ensures limited { result ≤ 4 * 10 ^ 28 }
 {
     let sent = 4_000_000 * u128::from(intensity) * u128::from(distance) * u128::from(area);

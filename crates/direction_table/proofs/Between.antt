@@ -4,13 +4,13 @@ use Rattle.std.proofs.Math.Nat.{mul-le-mul}
 use Rattle.std.proofs.lemmas.Bool.Decides.{nat_tests}
 use Rattle.std.proofs.lemmas.Nat.{div_below}
 use Rattle.direction_table.specs.Directions.{sine, cosine, direction_at, is_past, whole_degrees, distance_past, distance_short, thousandths}
-use Rattle.direction_table.proofs.Greatest.{greatest-within, greatest-passes, greatest-is, past_greatest}
+use Rattle.laws.proofs.Greatest.{greatest-within, greatest-passes, greatest-is, past_greatest}
 use Rattle.direction_table.proofs.Searched.{past_zero}
 
 -- it lies at or past the whole degree
 pub reached : (x y : ℕ) → x * sine (whole_degrees x y) ≤ y * cosine (whole_degrees x y)
 unfolding whole_degrees
-reached x y = grind (arith, nat_tests, greatest-passes (is_past x y) 89 (past_zero x y))
+reached x y = grind (arith, nat_tests, greatest-passes 89 (is_past x y) (past_zero x y))
 
 last_sine : sine 90 ≡ 1000000000000000000
 unfolding sine
@@ -24,9 +24,9 @@ last_cosine = refl
 missed_at : (x y next : ℕ) → 0 < x → whole_degrees x y + 1 ≡ next → y * cosine next < x * sine next
 unfolding whole_degrees
 missed_at x y next h e =
-    let within = greatest-within (is_past x y) 89 in
+    let within = greatest-within 89 (is_past x y) in
     let inner : next ≤ 89 → y * cosine next < x * sine next = λ below.
-    let past = past_greatest (is_past x y) 89 next (omega arith) below in grind (arith, nat_tests) in
+    let past = past_greatest 89 (is_past x y) next (omega arith) below in grind (arith, nat_tests) in
     let last : next ≡ 90 → y * cosine next < x * sine next = λ is.
     let sines : x * sine next ≡ x * 1000000000000000000 = ap (λ degrees. x * sine degrees) is ∙ ap (λ n. x * n) last_sine in
     let cosines : y * cosine next ≡ y * 0 = ap (λ degrees. y * cosine degrees) is ∙ ap (λ n. y * n) last_cosine in
@@ -39,7 +39,7 @@ missed x y h = missed_at x y _ h refl
 -- on the y axis it lies at 89 degrees, past which it lies by the whole cosine
 upright : (y : ℕ) → whole_degrees 0 y ≡ 89
 unfolding whole_degrees
-upright y = grind (arith, nat_tests, greatest-is (is_past 0 y) 89 89)
+upright y = grind (arith, nat_tests, greatest-is 89 (is_past 0 y) 89)
 
 -- it never lies past the next degree
 not_past_at : (x y next : ℕ) → whole_degrees x y + 1 ≡ next → y * cosine next ≤ x * sine next

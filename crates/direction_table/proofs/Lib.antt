@@ -1,4 +1,3 @@
 mod Table
-mod Greatest
 mod Searched
 mod Between

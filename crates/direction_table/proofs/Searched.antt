@@ -6,7 +6,7 @@ use Rattle.std.specs.List.Sorted.{IsPartitionPoint, IsPartitionedBy}
 use Rattle.direction_table.specs.Directions.{sine, direction_at, is_past, whole_degrees}
 use Rattle.direction_table.specs.declared.degrees.TheConstants.{DEGREES}
 use Rattle.direction_table.proofs.Table.{entry_at, table_is, past_before}
-use Rattle.direction_table.proofs.Greatest.{greatest-is}
+use Rattle.laws.proofs.Greatest.{greatest-is}
 
 -- (x, y) lies at or past the degree of an entry, as the code tests it
 abbrev pub reaches : ℕ → ℕ → ℕ × ℕ → Bool
@@ -46,4 +46,4 @@ searched x y found other within (reached, missed) =
     let fails : (degrees : ℕ) → found < degrees → degrees ≤ 89 → is_past x y degrees ≡ false = λ degrees h most.
     sym (ap (reaches x y) (inner_entry (degrees - 1) degrees other (omega arith) (omega arith)))
     ∙ missed (degrees - 1) other (omega arith) (omega (arith, length-inner_entries)) in
-    sym (greatest-is (is_past x y) 89 found within (passes found refl) fails)
+    sym (greatest-is 89 (is_past x y) found within (passes found refl) fails)

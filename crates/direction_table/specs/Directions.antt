@@ -1,6 +1,7 @@
 -- Directions in whole thousandths of a degree. That they come from this table of whole degrees, and in proportion between
 -- two of them, is this project's own rule.
 use Rattle.std.specs.Prelude.{ℕ, zero, suc, ◌+◌, ◌-◌, ◌*◌, ◌/◌, ◌^◌, ◌==◌, ◌&&◌, nat_le, Bool, if◌then◌else◌, ℤ, pos, int_lt, int_le, unsigned_abs}
+use Rattle.laws.specs.Greatest.{greatest_up_to}
 
 -- a direction by its sine and its cosine, times 10^18
 pub record Direction : Type 0 where
@@ -35,14 +36,9 @@ cosine degrees = if degrees == 90 then 0 else (direction_at degrees).cosine
 abbrev pub is_past : ℕ → ℕ → ℕ → Bool
 is_past x y degrees = nat_le (x * sine degrees) (y * cosine degrees)
 
--- the greatest number up to a last one that passes a test, 0 where none does
-unfoldable pub greatest : (ℕ → Bool) → ℕ → ℕ
-greatest test zero = zero
-greatest test (suc last) = if test (suc last) then suc last else greatest test last
-
 -- the greatest whole number of degrees, up to 89, that (x, y) lies at or past
 unfoldable pub whole_degrees : ℕ → ℕ → ℕ
-whole_degrees x y = greatest (is_past x y) 89
+whole_degrees x y = greatest_up_to 89 (is_past x y)
 
 -- how far (x, y) lies past a number of degrees, across that direction
 abbrev pub distance_past : ℕ → ℕ → ℕ → ℕ

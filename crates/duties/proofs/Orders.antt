@@ -118,5 +118,21 @@ module _ {F : Type 0} where
   pub judged_err : {V : Type 0} (duties : List (Option F)) (value : V) (f : F) → first duties ≡ Some f → judged duties value ≡ Err f
   judged_err duties value f h = rw h refl
 
+  -- a value that was found is the value, and all duties are met
+  pub judged_is : {V : Type 0} (duties : List (Option F)) (value found : V) → judged duties value ≡ Ok found → (found ≡ value) × (first duties ≡ None)
+  judged_is duties value found h = by_first (first duties) refl
+    where
+      by_first : (d : Option F) → first duties ≡ d → (found ≡ value) × (first duties ≡ None)
+      by_first None e = let ok = judged_ok duties value e in let same : found ≡ value = cc in (same, e)
+      by_first (Some fault) e = let err = judged_err duties value fault e in absurd (cc)
+
+  -- a fault that was found is the first
+  pub judged_refuses : {V : Type 0} (duties : List (Option F)) (value : V) (f : F) → judged duties value ≡ Err f → first duties ≡ Some f
+  judged_refuses duties value f h = by_first (first duties) refl
+    where
+      by_first : (d : Option F) → first duties ≡ d → first duties ≡ Some f
+      by_first None e = let ok = judged_ok duties value e in absurd (cc)
+      by_first (Some fault) e = let err = judged_err duties value fault e in let same : fault ≡ f = cc in rw (← same) e
+
   -- the steps through a list of duties, for tactics
   pub ruleset steps = (this_met, this_fails, none_left, unless_holds, unless_fails)

@@ -9,11 +9,11 @@ use Rattle.flux_system.specs.Sums.{sum_below}
 use Rattle.flux_system.specs.System.{FluxSystem, scale, patches, coefficient, keep}
 use Rattle.flux_system.specs.Validity.{IsSystem}
 use Rattle.flux_system.proofs.Sums.{sum-le, le-sum, sum-front}
-use Rattle.flux_system.proofs.Keeping.{passed-lt, keep-above}
+use Rattle.flux_system.proofs.Keeping.{passed_part-lt, keep-above}
 use Rattle.flux_ledger.specs.declared.ledger.Ledger.{Ledger}
 use Rattle.flux_ledger.specs.Balance.{unshot_at, unshot}
 use Rattle.flux_ledger.proofs.Bounds.{balances, conserved, unshot_bound}
-use Rattle.enclosure.specs.Interval.{spill_of, greatest_below, rise_from, low_of, high_of, interval_of, all_of, IsDone}
+use Rattle.enclosure.specs.Interval.{spill_of, greatest_below, rise_from, low_end, high_end, interval_of, intervals_of, IsDone}
 use Rattle.enclosure.proofs.Fractions.{div_ceil-le}
 
 greatest-le : (n : ℕ) (f : ℕ → ℕ) (m : ℕ) → ((i : ℕ) → i < n → f i ≤ m) → greatest_below n f ≤ m
@@ -25,8 +25,8 @@ sum-all zero k = omega arith
 sum-all (suc n) k = omega (arith, sum-all n k)
 
 -- what holds of f at each number below n holds of each item of the list that is made of f
-All-listed : {X : Type 0} (P : X → Type 0) (f : ℕ → X) (n : ℕ) → ((j : ℕ) → j < n → P (f j)) → (xs : List X) → xs ≡ map f (range_with_len 0 n) → All P xs
-All-listed P f n each xs is = subst (λ ys. All P ys) (sym is) (λ k d h.
+All-range : {X : Type 0} (P : X → Type 0) (f : ℕ → X) (n : ℕ) → ((j : ℕ) → j < n → P (f j)) → (xs : List X) → xs ≡ map f (range_with_len 0 n) → All P xs
+All-range P f n each xs is = subst (λ ys. All P ys) (sym is) (λ k d h.
     let inside : k < n = let long = length-map-range_with_len f 0 n in omega arith in
     subst P (sym (get_or-map-range_with_len f 0 n k k d inside (omega arith))) (each k inside))
 
@@ -34,10 +34,19 @@ module _ (s : FluxSystem) (valid : IsSystem s) where
   -- what a patch gets of what spilled, from one other
   rise-le : (spill j i : ℕ) → spill ≤ 10000000000000000 → j < patches s → i < patches s → rise_from s spill j i ≤ 200000000000000000
   rise-le spill j i few to from =
-      let lt = passed-lt s valid i from in
+      let lt = passed_part-lt s valid i from in
       let one = le-sum (patches s) (coefficient s i) j to in
       let a = mul-le (coefficient s i j) spill 1000000000000 10000000000000000 (omega arith) few in
       div_ceil-le (coefficient s i j * spill) (keep s i) 200000000000000000 (omega arith) (omega arith)
+
+  -- a patch passes less than nineteen times what it keeps to any other
+  rise_width : (spill j i : ℕ) → j < patches s → i < patches s → rise_from s spill j i ≤ 19 * spill
+  rise_width spill j i to from =
+      let lt = passed_part-lt s valid i from in
+      let one = le-sum (patches s) (coefficient s i) j to in
+      let part : coefficient s i j ≤ 19 * keep s i = omega arith in
+      let whole = mul-le (coefficient s i j) spill (19 * keep s i) spill part (omega arith) in
+      div_ceil-le (coefficient s i j * spill) (keep s i) (19 * spill) (omega arith) (omega arith)
 
   module _ (l : Ledger) (done : IsDone s l) where
     -- what is unshot at the first patches and at the next
@@ -60,7 +69,7 @@ module _ (s : FluxSystem) (valid : IsSystem s) where
         div_ceil-le (unshot s l) scale (n * (s.threshold - 1 + l.parts)) (omega arith) (omega arith)
 
     -- the low end and the fraction of a patch
-    pub low_bound : (j : ℕ) → j < patches s → low_of l j + div_ceil (get_or l.err j 0) scale ≤ 200000000000000020
+    pub low_bound : (j : ℕ) → j < patches s → low_end l j + div_ceil (get_or l.err j 0) scale ≤ 200000000000000020
     low_bound j h =
         let c = conserved s valid l (balances s l done.balanced) in
         let taken = le-sum (patches s) (λ i. get_or l.taken i 0 * keep s i) j h in
@@ -80,11 +89,25 @@ module _ (s : FluxSystem) (valid : IsSystem s) where
         let limited = done.limited in
         greatest-le (patches s) (rise_from s (spill_of s l) j) _ (λ i at. rise-le (spill_of s l) j i (omega arith) h at)
 
-    pub high_bound : (j : ℕ) → j < patches s → high_of s l j ≤ 400000000000000020
+    pub high_bound : (j : ℕ) → j < patches s → high_end s l j ≤ 400000000000000020
     high_bound j h = let low = low_bound j h in let rise = rise_bound j h in omega arith
 
-    pub all_ordered : (ends : List (ℕ × ℕ)) → ends ≡ all_of s l → All (λ e. e.0 ≤ e.1) ends
-    all_ordered = All-listed (λ (e : ℕ × ℕ). e.0 ≤ e.1) (interval_of s l) (patches s) (λ j h. omega arith)
+    pub all_ordered : (ends : List (ℕ × ℕ)) → ends ≡ intervals_of s l → All (λ e. e.0 ≤ e.1) ends
+    all_ordered = All-range (λ (e : ℕ × ℕ). e.0 ≤ e.1) (interval_of s l) (patches s) (λ j h. omega arith)
 
-    pub all_bounded : (ends : List (ℕ × ℕ)) → ends ≡ all_of s l → All (λ e. e.1 ≤ 400010000000000000) ends
-    all_bounded = All-listed (λ (e : ℕ × ℕ). e.1 ≤ 400010000000000000) (interval_of s l) (patches s) (λ j h. let high = high_bound j h in omega arith)
+    pub all_bounded : (ends : List (ℕ × ℕ)) → ends ≡ intervals_of s l → All (λ e. e.1 ≤ 400010000000000000) ends
+    all_bounded = All-range (λ (e : ℕ × ℕ). e.1 ≤ 400010000000000000) (interval_of s l) (patches s) (λ j h. let high = high_bound j h in omega arith)
+
+    -- how wide an interval can be
+    high_width : (j : ℕ) → j < patches s → high_end s l j ≤ low_end l j + l.parts + 19 * spill_of s l
+    high_width j h =
+        let small = done.balanced.fractions j h in
+        let fraction = div_ceil-le (get_or l.err j 0) scale l.parts (omega arith) (omega arith) in
+        let rise = greatest-le (patches s) (rise_from s (spill_of s l) j) _ (λ i at. rise_width (spill_of s l) j i h at) in
+        omega arith
+
+    pub pair_width : (j : ℕ) → j < patches s → (ends : ℕ × ℕ) → ends ≡ interval_of s l j → ends.1 ≤ ends.0 + l.parts + 19 * spill_of s l
+    pair_width j h ends is = subst (λ (e : ℕ × ℕ). e.1 ≤ e.0 + l.parts + 19 * spill_of s l) (sym is) (high_width j h)
+
+    pub all_widths : (ends : List (ℕ × ℕ)) → ends ≡ intervals_of s l → All (λ e. e.1 ≤ e.0 + l.parts + 19 * spill_of s l) ends
+    all_widths = All-range (λ (e : ℕ × ℕ). e.1 ≤ e.0 + l.parts + 19 * spill_of s l) (interval_of s l) (patches s) high_width

@@ -18,7 +18,7 @@ use Rattle.flux_ledger.specs.Balance.{unshot_at, unshot}
 use Rattle.exact_model.specs.Solution.{IsSolution, Encloses}
 use Rattle.exact_model.proofs.Missing.{missing_flux}
 use Rattle.exact_model.proofs.Solutions.{IsNatural, natural_of}
-use Rattle.enclosure.specs.Interval.{spill_of, greatest_below, rise_from, low_of, high_of, interval_of, IsDone, EnclosesAll}
+use Rattle.enclosure.specs.Interval.{spill_of, greatest_below, rise_from, low_end, high_end, interval_of, IsDone, EnclosesAll}
 
 le-greatest : (n : ℕ) (f : ℕ → ℕ) (i : ℕ) → i < n → f i ≤ greatest_below n f
 le-greatest zero f i h = absurd (omega arith)
@@ -86,7 +86,7 @@ module _ (s : FluxSystem) (valid : IsSystem s) where
         natural_of s valid (unshot_at l) (λ j. num j -ℤ pos (den * slice_index l.taken j)) den
         (missing_flux s (slice_index l.direct) (slice_index l.taken) (unshot_at l) num den solution (λ j h. let e = done.balanced.balance j h in omega arith))
 
-    encloses_at : (j : ℕ) → j < patches s → Encloses s (slice_index l.direct) j (low_of l j) (high_of s l j)
+    encloses_at : (j : ℕ) → j < patches s → Encloses s (slice_index l.direct) j (low_end l j) (high_end s l j)
     encloses_at j h num den solution =
         let n = patches s in
         let x : ℕ → ℕ = λ i. up (num i -ℤ pos (den * slice_index l.taken i)) in

@@ -2,15 +2,15 @@
 use Rattle.std.proofs.Common.{◌≡◌, ℕ, ◌+◌, ◌*◌, ◌<◌, List, length, max, ap, ◌∙◌, add-one, arith, get_or}
 use Rattle.std.specs.Int.{div_ceil}
 use Rattle.std.proofs.lemmas.List.FromFn.{length-map-range_with_len, get_or-map-range_with_len}
-use Rattle.flux_system.specs.System.{FluxSystem, patches, share, row_of, coefficient, keep}
+use Rattle.flux_system.specs.System.{FluxSystem, patches, share, share_row, coefficient, keep}
 use Rattle.enclosure.specs.declared.fraction.Fraction.{Fraction}
-use Rattle.enclosure.specs.Fractions.{part_of, IsGreatest}
+use Rattle.enclosure.specs.Shapes.{part_of, IsGreatest}
 
-pub length-row_of : (s : FluxSystem) (i : ℕ) (row : List ℕ) → row ≡ row_of s i → length row ≡ patches s
-length-row_of s i row is = ap length is ∙ length-map-range_with_len (share s i) 0 (patches s)
+pub length-share_row : (s : FluxSystem) (i : ℕ) (row : List ℕ) → row ≡ share_row s i → length row ≡ patches s
+length-share_row s i row is = ap length is ∙ length-map-range_with_len (share s i) 0 (patches s)
 
 -- a reflectance times a share of the row
-pub coefficient_in : (s : FluxSystem) (i j : ℕ) (row : List ℕ) (r r' q : ℕ) → row ≡ row_of s i → j < patches s → r' ≡ r → r ≡ get_or s.reflectance i 0 → q ≡ get_or row j 0 → r' * q ≡ coefficient s i j
+pub coefficient_in : (s : FluxSystem) (i j : ℕ) (row : List ℕ) (r r' q : ℕ) → row ≡ share_row s i → j < patches s → r' ≡ r → r ≡ get_or s.reflectance i 0 → q ≡ get_or row j 0 → r' * q ≡ coefficient s i j
 unfolding coefficient
 coefficient_in s i j row r r' q is h e f g =
     let at = g ∙ (ap (λ (xs : List ℕ). get_or xs j 0) is ∙ get_or-map-range_with_len (share s i) 0 (patches s) j j 0 h (omega arith)) in

@@ -21,20 +21,20 @@ abbrev pub rise_from : FluxSystem → ℕ → ℕ → ℕ → ℕ
 rise_from s spill j i = div_ceil (coefficient s i j * spill) (keep s i)
 
 -- what the ledger says is there
-abbrev pub low_of : Ledger → ℕ → ℕ
-low_of l j = slice_index l.taken j + slice_index l.residual j
+abbrev pub low_end : Ledger → ℕ → ℕ
+low_end l j = slice_index l.taken j + slice_index l.residual j
 
 -- and besides the fraction, rounded up, and the most that can still come from another patch
-abbrev pub high_of : FluxSystem → Ledger → ℕ → ℕ
-high_of s l j = low_of l j + div_ceil (slice_index l.err j) scale + greatest_below (patches s) (rise_from s (spill_of s l) j)
+abbrev pub high_end : FluxSystem → Ledger → ℕ → ℕ
+high_end s l j = low_end l j + div_ceil (slice_index l.err j) scale + greatest_below (patches s) (rise_from s (spill_of s l) j)
 
 -- both ends
 abbrev pub interval_of : FluxSystem → Ledger → ℕ → ℕ × ℕ
-interval_of s l j = (low_of l j, high_of s l j)
+interval_of s l j = (low_end l j, high_end s l j)
 
 -- the intervals of all patches
-abbrev pub all_of : FluxSystem → Ledger → List (ℕ × ℕ)
-all_of s l = map (interval_of s l) (range_with_len 0 (patches s))
+abbrev pub intervals_of : FluxSystem → Ledger → List (ℕ × ℕ)
+intervals_of s l = map (interval_of s l) (range_with_len 0 (patches s))
 
 -- a ledger that is finished and balanced for the system, of at most 10^16 nanolumens
 pub record IsDone (s : FluxSystem) (l : Ledger) : Type 0 where
@@ -44,4 +44,4 @@ pub record IsDone (s : FluxSystem) (l : Ledger) : Type 0 where
 
 -- every interval of the ledger encloses what every solution for its direct flux has there
 abbrev pub EnclosesAll : FluxSystem → Ledger → Type 0
-EnclosesAll s l = (j : ℕ) → j < patches s → Encloses s (slice_index l.direct) j (low_of l j) (high_of s l j)
+EnclosesAll s l = (j : ℕ) → j < patches s → Encloses s (slice_index l.direct) j (low_end l j) (high_end s l j)

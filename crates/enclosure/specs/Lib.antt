@@ -1,2 +1,2 @@
 pub mod Interval
-pub mod Fractions
+pub mod Shapes

@@ -3,8 +3,8 @@ ghost use Rattle.std.specs.Prelude.{◌≡◌, ℕ, ◌+◌, ◌-◌, ◌*◌, �
 ghost use Rattle.flux_system.specs.System.{patches};
 ghost use Rattle.flux_system.specs.Validity.{IsSystem};
 ghost use Rattle.exact_model.specs.Solution.{Encloses};
-ghost use Rattle.enclosure.specs.Fractions.{IsGreatest};
-ghost use Rattle.enclosure.specs.Interval.{spill_of, interval_of, all_of, IsDone, EnclosesAll};
+ghost use Rattle.enclosure.specs.Shapes.{IsGreatest};
+ghost use Rattle.enclosure.specs.Interval.{spill_of, interval_of, intervals_of, IsDone, EnclosesAll};
 
 use crate::fraction::Fraction;
 use crate::rises::{greatest_at, greatest_everywhere};
@@ -49,13 +49,15 @@ fn ends(system: &System, ledger: &Ledger, spilled: u64, greatest: Fraction, j: u
 }
 
 /// The interval of patch `j` of a finished and balanced ledger, in nanolumens: from what the ledger says is there to
-/// what can come at most. Every solution of the system for the ledger's direct flux lies in it.
+/// what can come at most. Every solution of the system for the ledger's direct flux lies in it. It is no wider than a
+/// nanolumen for each account and nineteen times what spills: a patch passes on less than nineteen times what it keeps.
 pub fn interval(system: &System, ledger: &Ledger, j: usize) -> (u64, u64)
     requires done { IsDone system.now ledger.now }
     requires patch { j < patches system.now }
     ensures value { result ≡ interval_of system.now ledger.now j }
     ensures order { result.0 ≤ result.1 }
     ensures bound { result.1 ≤ 4 * 10 ^ 17 + 10 ^ 13 }
+    ensures width { result.1 ≤ result.0 + ledger.now.parts + 19 * spill_of system.now ledger.now }
     ensures encloses { Encloses system.now (slice_index ledger.now.direct) j result.0 result.1 }
 {
     let spilled = spill(system, ledger);
@@ -65,9 +67,10 @@ pub fn interval(system: &System, ledger: &Ledger, j: usize) -> (u64, u64)
 /// The intervals of all patches, as [`interval`] gives each. Fails only if memory runs out.
 pub fn all(alloc: Global, system: &System, ledger: &Ledger) -> Result<Vec<(u64, u64)>, AllocError>
     requires { IsDone system.now ledger.now }
-    ensures value { IfOk result (λ intervals. intervals.items ≡ all_of system.now ledger.now) }
+    ensures value { IfOk result (λ intervals. intervals.items ≡ intervals_of system.now ledger.now) }
     ensures order { IfOk result (λ intervals. All (λ ends. ends.0 ≤ ends.1) intervals.items) }
     ensures bound { IfOk result (λ intervals. All (λ ends. ends.1 ≤ 4 * 10 ^ 17 + 10 ^ 13) intervals.items) }
+    ensures width { IfOk result (λ intervals. All (λ ends. ends.1 ≤ ends.0 + ledger.now.parts + 19 * spill_of system.now ledger.now) intervals.items) }
     ensures encloses { IfOk result (λ _. EnclosesAll system.now ledger.now) }
 {
     let spilled = spill(system, ledger);

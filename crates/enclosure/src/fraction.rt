@@ -9,7 +9,7 @@ pub struct Fraction {
 }
 
 impl Fraction {
-    ghost use Rattle.enclosure.specs.Fractions.{part_of};
+    ghost use Rattle.enclosure.specs.Shapes.{part_of};
 
     // The greater of two fractions: it takes no less of any amount than the other, also where that is rounded up.
     #[inline]

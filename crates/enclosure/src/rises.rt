@@ -1,7 +1,7 @@
 // The greatest fraction of what is kept at one patch that another patch gets of it.
 ghost use Rattle.std.specs.Prelude.{◌≡◌, ◌+◌, ◌<◌, IfOk};
 ghost use Rattle.flux_system.specs.System.{patches};
-ghost use Rattle.enclosure.specs.Fractions.{IsGreatest, AreGreatest};
+ghost use Rattle.enclosure.specs.Shapes.{IsGreatest, AreGreatest};
 
 use crate::fraction::Fraction;
 use flux_system::System;

@@ -1,43 +1,44 @@
 -- Lists of angles and of values that grow by one.
-use Rattle.std.proofs.Common.{◌≡◌, ℕ, ◌+◌, ◌-◌, ◌<◌, ◌≤◌, min, Bool, true, false, cond, List, [], ◌∷◌, ◌++◌, length, get_or, map, refl, ap, ◌∙◌, arith, eqb, inl, inr}
+use Rattle.std.proofs.Common.{◌≡◌, ℕ, ◌+◌, ◌-◌, ◌<◌, ◌≤◌, min, Bool, true, false, cond, List, [], ◌∷◌, ◌^◌, ◌++◌, length, get_or, map, refl, ap, ◌∙◌, arith, eqb}
 use Rattle.std.specs.Prelude.{filter}
 use Rattle.std.specs.List.{range_with_len}
 use Rattle.std.specs.List.Sorted.{IsStrictlyIncreasing}
-use Rattle.std.proofs.lemmas.Bool.{ne_eqb, cases_lt}
-use Rattle.std.proofs.lemmas.List.{get_or_push, get_or_append_left, length_push, map-append, append-nil}
-use Rattle.std.proofs.lemmas.List.FromFn.{map-range_with_len_more}
+use Rattle.std.proofs.lemmas.Bool.{ne_eqb}
+use Rattle.std.proofs.lemmas.List.{map-append, append-nil}
+use Rattle.laws.proofs.Ranges.{map-more, filter-more}
+use Rattle.laws.proofs.Rising.{rising_push}
 use Rattle.std.proofs.lemmas.Bool.Decides.{nat_tests}
-use Rattle.symmetry.proofs.Lists.{filter_more}
 use Rattle.duties.specs.Duties.{unless}
 use Rattle.lux_lines.specs.Places.{Piece}
 use Rattle.lux_num.specs.declared.decimal.Decimal.{Decimal}
 use Rattle.eulumdat_reader.specs.declared.gaps.Gap.{Gap}
 use Rattle.eulumdat_reader.specs.declared.faults.LdtFault.TheVariants.{Angles}
-use Rattle.eulumdat_reader.specs.Rows.{number_at, field, present}
+use Rattle.eulumdat_reader.specs.Rows.{number_at, field, presence_duty}
 use Rattle.eulumdat_reader.specs.Planes.{is_outside}
 use Rattle.photo_numbers.specs.Numbers.{is_angle}
-use Rattle.eulumdat_reader.specs.Angles.{angle, angles, least_behind, angle_duty}
-use Rattle.eulumdat_reader.specs.Intensities.{intensities, intensity_of}
+use Rattle.eulumdat_reader.specs.Angles.{angle_at, angles, least_behind, angle_duty}
+use Rattle.photo_numbers.specs.Intensities.{intensity_of}
+use Rattle.eulumdat_reader.specs.Intensities.{intensities}
 
 module _ (unread : Gap) (all : List Piece) (start at : ℕ) where
   -- the angles that are read, past one place more
-  grown : angles unread all start (at + 1) ≡ angles unread all start at ++ map (angle all start) (cond (is_outside unread at) (at ∷ []) [])
+  grown : angles unread all start (at + 1) ≡ angles unread all start at ++ map (angle_at all start) (cond (is_outside unread at) (at ∷ []) [])
   unfolding angles
   grown =
-      ap (map (angle all start)) (filter_more (is_outside unread) at)
-      ∙ map-append (angle all start) (filter (is_outside unread) (range_with_len 0 at)) (cond (is_outside unread at) (at ∷ []) [])
+      ap (map (angle_at all start)) (filter-more (is_outside unread) at)
+      ∙ map-append (angle_at all start) (filter (is_outside unread) (range_with_len 0 at)) (cond (is_outside unread at) (at ∷ []) [])
 
-  pub angles_more : is_outside unread at ≡ true → angles unread all start (at + 1) ≡ angles unread all start at ++ angle all start at ∷ []
-  angles_more h = grown ∙ ap (λ (b : Bool). angles unread all start at ++ map (angle all start) (cond b (at ∷ []) [])) h
+  pub angles_more : is_outside unread at ≡ true → angles unread all start (at + 1) ≡ angles unread all start at ++ angle_at all start at ∷ []
+  angles_more h = grown ∙ ap (λ (b : Bool). angles unread all start at ++ map (angle_at all start) (cond b (at ∷ []) [])) h
 
   pub angles_stay : is_outside unread at ≡ false → angles unread all start (at + 1) ≡ angles unread all start at
-  angles_stay h = grown ∙ (ap (λ (b : Bool). angles unread all start at ++ map (angle all start) (cond b (at ∷ []) [])) h ∙ append-nil _)
+  angles_stay h = grown ∙ (ap (λ (b : Bool). angles unread all start at ++ map (angle_at all start) (cond b (at ∷ []) [])) h ∙ append-nil _)
 
   pub duty_outside : (list most : ℕ) → is_outside unread at ≡ true → angle_duty list most unread all start at ≡ field all (start + at) (λ (x : Decimal). unless (is_angle (least_behind (angles unread all start at)) most x) (Angles list at))
   unfolding angle_duty
   duty_outside list most h = rw h refl
 
-  pub duty_inside : (list most : ℕ) → is_outside unread at ≡ false → angle_duty list most unread all start at ≡ present all (start + at)
+  pub duty_inside : (list most : ℕ) → is_outside unread at ≡ false → angle_duty list most unread all start at ≡ presence_duty all (start + at)
   unfolding angle_duty
   duty_inside list most h = rw h refl
 
@@ -45,9 +46,9 @@ pub no_angles : (unread : Gap) (all : List Piece) (start : ℕ) → angles unrea
 unfolding angles
 no_angles unread all start = refl
 
-pub intensities_more : (scale : ℕ) (all : List Piece) (start at : ℕ) → intensities scale all start (at + 1) ≡ intensities scale all start at ++ intensity_of scale (number_at all (start + at)) ∷ []
+pub intensities_more : (scale : ℕ) (all : List Piece) (start at : ℕ) → intensities scale all start (at + 1) ≡ intensities scale all start at ++ intensity_of (10 ^ 12) scale (number_at all (start + at)) ∷ []
 unfolding intensities
-intensities_more scale all start at = map-range_with_len_more (λ (k : ℕ). intensity_of scale (number_at all (start + k))) 0 at at (omega arith)
+intensities_more scale all start at = map-more (λ (k : ℕ). intensity_of (10 ^ 12) scale (number_at all (start + k))) at
 
 pub no_intensities : (scale : ℕ) (all : List Piece) (start : ℕ) → intensities scale all start 0 ≡ []
 unfolding intensities
@@ -62,15 +63,8 @@ least_above xs k x last low =
     omega arith
 
 -- a rising list stays so by a number that may stand behind it
-pub rising_push : (xs : List ℕ) (x : ℕ) → IsStrictlyIncreasing xs → least_behind xs ≤ x → IsStrictlyIncreasing (xs ++ x ∷ [])
-rising_push xs x rising low = λ k inside.
-    let len = length_push xs x in
-    elim (cases_lt (k + 1) (length xs)) [
-      | inl before ↦ rw (get_or_append_left xs (x ∷ []) 0 k (omega arith), get_or_append_left xs (x ∷ []) 0 (k + 1) before) (rising k before)
-      | inr last ↦
-          let above = least_above xs k x (omega arith) low in
-          rw (get_or_append_left xs (x ∷ []) 0 k (omega arith), get_or_push xs x 0 (k + 1) (omega arith)) above
-    ]
+pub rising_behind : (xs : List ℕ) (x : ℕ) → IsStrictlyIncreasing xs → least_behind xs ≤ x → IsStrictlyIncreasing (xs ++ x ∷ [])
+rising_behind xs x rising low = rising_push xs x rising (λ k last. least_above xs k x last low)
 
 -- how many places before one aren't read
 abbrev pub unread_before : Gap → ℕ → ℕ

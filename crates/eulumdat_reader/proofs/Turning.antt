@@ -7,8 +7,8 @@ use Rattle.std.proofs.lemmas.List.{get_or-map, get_or-reverse, get_or-take, get_
 use Rattle.std.proofs.lemmas.List.Folds.{list_any_at}
 use Rattle.photo_web.specs.declared.photometry.SymKind.TheVariants.{Plane90}
 use Rattle.symmetry.specs.Images.{has_span}
-use Rattle.symmetry.proofs.Lists.{rising_lt, rising_le}
-use Rattle.eulumdat_reader.specs.Planes.{turned, is_span}
+use Rattle.laws.proofs.Rising.{rising_lt, rising_le}
+use Rattle.eulumdat_reader.specs.Planes.{turned_angle, is_span}
 
 -- what the span says of the angles read
 pub record IsAbout90 (a : List ℕ) (q : ℕ) : Type 0 where
@@ -19,16 +19,16 @@ pub record IsAbout90 (a : List ℕ) (q : ℕ) : Type 0 where
   pub behind : slice_index a (q + 1) ≡ 270000
   pub below : slice_index a (2 * q) < 360000
 
-turned_front : (angle : ℕ) → angle ≤ 90000 → turned angle ≡ 180000 - angle
+turned_front : (angle : ℕ) → angle ≤ 90000 → turned_angle angle ≡ 180000 - angle
 turned_front angle h = omega arith
 
-turned_back : (angle : ℕ) → 270000 ≤ angle → angle < 360000 → turned angle ≡ 540000 - angle
+turned_back : (angle : ℕ) → 270000 ≤ angle → angle < 360000 → turned_angle angle ≡ 540000 - angle
 turned_back angle h k = omega arith
 
 module _ (a : List ℕ) (q : ℕ) (up : IsStrictlyIncreasing a) (about : IsAbout90 a q) where
   -- the turned planes
   abbrev pub planes : List ℕ
-  planes = map turned (reverse (take (q + 1) a) ++ reverse (drop (q + 1) a))
+  planes = map turned_angle (reverse (take (q + 1) a) ++ reverse (drop (q + 1) a))
 
   pub count : length planes ≡ 2 * q + 1
   count = simp (length-map, length-append, length-reverse, length-take, length-drop) (omega (arith, about.len))
@@ -49,8 +49,8 @@ module _ (a : List ℕ) (q : ℕ) (up : IsStrictlyIncreasing a) (about : IsAbout
       let len_front = length-reverse (take (q + 1) a) in
       let len_all = length-append (reverse (take (q + 1) a)) (reverse (drop (q + 1) a)) in
       let place : length (take (q + 1) a) - 1 - i ≡ q - i = omega (arith, about.len) in
-      get_or-map turned (reverse (take (q + 1) a) ++ reverse (drop (q + 1) a)) i 0 0 (omega (arith, about.len))
-      ∙ (ap turned (get_or_append_left (reverse (take (q + 1) a)) (reverse (drop (q + 1) a)) 0 i (omega (arith, about.len))
+      get_or-map turned_angle (reverse (take (q + 1) a) ++ reverse (drop (q + 1) a)) i 0 0 (omega (arith, about.len))
+      ∙ (ap turned_angle (get_or_append_left (reverse (take (q + 1) a)) (reverse (drop (q + 1) a)) 0 i (omega (arith, about.len))
       ∙ (get_or-reverse (take (q + 1) a) i 0 (omega (arith, about.len))
       ∙ (ap (λ (k : ℕ). get_or (take (q + 1) a) k 0) place ∙ get_or-take (q + 1) a (q - i) 0 (omega arith))))
       ∙ turned_front (slice_index a (q - i)) (low (q - i) (omega arith)))
@@ -64,8 +64,8 @@ module _ (a : List ℕ) (q : ℕ) (up : IsStrictlyIncreasing a) (about : IsAbout
       let len_all = length-append (reverse (take (q + 1) a)) (reverse (drop (q + 1) a)) in
       let place : q + 1 + (length (drop (q + 1) a) - 1 - (i - (q + 1))) ≡ 3 * q + 1 - i = omega (arith, about.len) in
       let bounds = high (3 * q + 1 - i) (omega arith) (omega arith) in
-      get_or-map turned (reverse (take (q + 1) a) ++ reverse (drop (q + 1) a)) i 0 0 (omega (arith, about.len))
-      ∙ (ap turned (get_or-append_right (reverse (take (q + 1) a)) (reverse (drop (q + 1) a)) (q + 1) i 0 (omega (arith, about.len)) (omega arith)
+      get_or-map turned_angle (reverse (take (q + 1) a) ++ reverse (drop (q + 1) a)) i 0 0 (omega (arith, about.len))
+      ∙ (ap turned_angle (get_or-append_right (reverse (take (q + 1) a)) (reverse (drop (q + 1) a)) (q + 1) i 0 (omega (arith, about.len)) (omega arith)
       ∙ (get_or-reverse (drop (q + 1) a) (i - (q + 1)) 0 (omega (arith, about.len))
       ∙ (get_or-drop (q + 1) a (length (drop (q + 1) a) - 1 - (i - (q + 1))) 0 ∙ ap (λ (k : ℕ). slice_index a k) place)))
       ∙ turned_back (slice_index a (3 * q + 1 - i)) bounds.0 bounds.1)

@@ -11,7 +11,7 @@ use Rattle.lux_lines.specs.Places.{Piece}
 use Rattle.lux_lines.specs.Lines.{lines, lines_from, starts_line}
 use Rattle.eulumdat_reader.specs.declared.faults.LdtFault.{LdtFault}
 use Rattle.eulumdat_reader.specs.declared.faults.LdtFault.TheVariants.{Short}
-use Rattle.eulumdat_reader.specs.Rows.{row_at, row_number, numeric_row, number_at, present, numeric, blank_row, only_blanks}
+use Rattle.eulumdat_reader.specs.Rows.{row_at, row_number, row_number_duty, number_at, presence_duty, number_duty, blank_row, only_blanks}
 
 -- a text has no more lines than bytes
 pub few_lines : (text : List ℕ) → length (lines text) ≤ length text
@@ -23,29 +23,29 @@ pub row_behind : (all : List Piece) (read : ℕ) → row_at all (read + 1) ≡ s
 unfolding row_at
 row_behind all read = let e : read + 1 - 1 ≡ read = omega arith in rw e refl
 
-pub present_none : (all : List Piece) (row : ℕ) → row_at all row ≡ None → present all row ≡ Some (Short row)
-unfolding present
-present_none all row h = unless_fails _ _ (ap is_some h)
+pub presence_duty_none : (all : List Piece) (row : ℕ) → row_at all row ≡ None → presence_duty all row ≡ Some (Short row)
+unfolding presence_duty
+presence_duty_none all row h = unless_fails _ _ (ap is_some h)
 
-pub present_some : (all : List Piece) (row : ℕ) (line : Piece) → row_at all row ≡ Some line → present all row ≡ None
-unfolding present
-present_some all row line h = unless_holds _ _ (ap is_some h)
+pub presence_duty_some : (all : List Piece) (row : ℕ) (line : Piece) → row_at all row ≡ Some line → presence_duty all row ≡ None
+unfolding presence_duty
+presence_duty_some all row line h = unless_holds _ _ (ap is_some h)
 
-pub numeric_none : (all : List Piece) (row : ℕ) → row_at all row ≡ None → numeric all row ≡ Some (Short row)
-unfolding numeric
-numeric_none all row h = rw h refl
+pub number_duty_none : (all : List Piece) (row : ℕ) → row_at all row ≡ None → number_duty all row ≡ Some (Short row)
+unfolding number_duty
+number_duty_none all row h = rw h refl
 
-pub numeric_some : (all : List Piece) (row : ℕ) (line : Piece) → row_at all row ≡ Some line → (numeric all row ≡ numeric_row row line.text) × (number_at all row ≡ row_number line.text)
-unfolding numeric number_at
-numeric_some all row line h = (rw h refl, rw h refl)
+pub number_duty_some : (all : List Piece) (row : ℕ) (line : Piece) → row_at all row ≡ Some line → (number_duty all row ≡ row_number_duty row line.text) × (number_at all row ≡ row_number line.text)
+unfolding number_duty number_at
+number_duty_some all row line h = (rw h refl, rw h refl)
 
 -- where a line is missing, it is no number
-pub numeric_missing : (all : List Piece) (row : ℕ) (fault : LdtFault) → present all row ≡ Some fault → numeric all row ≡ Some fault
+pub numeric_missing : (all : List Piece) (row : ℕ) (fault : LdtFault) → presence_duty all row ≡ Some fault → number_duty all row ≡ Some fault
 numeric_missing all row fault h = by_line (row_at all row) refl
   where
-    by_line : (line : Option Piece) → row_at all row ≡ line → numeric all row ≡ Some fault
-    by_line None is = numeric_none all row is ∙ (sym (present_none all row is) ∙ h)
-    by_line (Some line) is = absurd (let none = present_some all row line is in cc)
+    by_line : (line : Option Piece) → row_at all row ≡ line → number_duty all row ≡ Some fault
+    by_line None is = number_duty_none all row is ∙ (sym (presence_duty_none all row is) ∙ h)
+    by_line (Some line) is = absurd (let none = presence_duty_some all row line is in cc)
 
 -- that the lines behind so many are blank
 pub blanks_behind : (all : List Piece) (read : ℕ) → only_blanks all (read + 1) ≡ first (map blank_row (drop read all))

@@ -6,17 +6,17 @@ use Rattle.lux_lines.specs.Places.{Piece}
 use Rattle.photo_numbers.specs.Numbers.{angle_of, is_angle}
 use Rattle.eulumdat_reader.specs.declared.faults.LdtFault.{LdtFault}
 use Rattle.eulumdat_reader.specs.declared.faults.LdtFault.TheVariants.{Angles}
-use Rattle.eulumdat_reader.specs.Rows.{number_at, field, present}
+use Rattle.eulumdat_reader.specs.Rows.{number_at, field, presence_duty}
 use Rattle.eulumdat_reader.specs.declared.gaps.Gap.{Gap}
 use Rattle.eulumdat_reader.specs.Planes.{is_outside}
 
 -- the angle at a place of a list that begins on a line, cut
-abbrev pub angle : List Piece → ℕ → ℕ → ℕ
-angle all start at = angle_of (number_at all (start + at))
+abbrev pub angle_at : List Piece → ℕ → ℕ → ℕ
+angle_at all start at = angle_of (number_at all (start + at))
 
 -- the angles at the places before one, of those that are read
 unfoldable pub angles : Gap → List Piece → ℕ → ℕ → List ℕ
-angles unread all start at = map (angle all start) (filter (is_outside unread) (range_with_len 0 at))
+angles unread all start at = map (angle_at all start) (filter (is_outside unread) (range_with_len 0 at))
 
 -- the least angle that may stand behind some: one above the last of them
 abbrev pub least_behind : List ℕ → ℕ
@@ -27,4 +27,4 @@ unfoldable pub angle_duty : ℕ → ℕ → Gap → List Piece → ℕ → ℕ �
 angle_duty list most unread all start at =
     if is_outside unread at
     then field all (start + at) (λ x. unless (is_angle (least_behind (angles unread all start at)) most x) (Angles list at))
-    else present all (start + at)
+    else presence_duty all (start + at)

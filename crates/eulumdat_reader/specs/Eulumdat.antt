@@ -12,9 +12,9 @@ use Rattle.symmetry.specs.Images.{expansion}
 use Rattle.eulumdat_reader.specs.declared.faults.LdtFault.{LdtFault}
 use Rattle.eulumdat_reader.specs.declared.faults.LdtFault.TheVariants.{Span}
 use Rattle.eulumdat_reader.specs.Rows.{only_blanks}
-use Rattle.eulumdat_reader.specs.Heads.{head_duties, symmetry, planes, gammas, scale}
+use Rattle.eulumdat_reader.specs.Heads.{head_duties, symmetry, planes, gammas, value_scale}
 use Rattle.eulumdat_reader.specs.declared.gaps.Gap.{Gap}
-use Rattle.eulumdat_reader.specs.Planes.{gap, stored_count, is_span, stored_planes, stored_rows}
+use Rattle.eulumdat_reader.specs.Planes.{unread_gap, stored_count, is_span, stored_planes, stored_rows}
 use Rattle.eulumdat_reader.specs.Angles.{angle_duty, angles}
 use Rattle.eulumdat_reader.specs.Intensities.{value_duty, intensities}
 
@@ -31,7 +31,7 @@ layout all = record {
   sym = symmetry all;
   planes = planes all;
   gammas = gammas all;
-  scale = scale all;
+  scale = value_scale all;
 }
 
 -- every line of the gamma angles is read
@@ -40,7 +40,7 @@ no_gap = record { from = 0; to = 0 }
 
 -- the C angles that are read
 abbrev pub c_angles : List Piece → Layout → List ℕ
-c_angles all l = angles (gap l.sym l.planes) all 43 l.planes
+c_angles all l = angles (unread_gap l.sym l.planes) all 43 l.planes
 
 -- the gamma angles
 abbrev pub gamma_angles : List Piece → Layout → List ℕ
@@ -54,11 +54,17 @@ value_count l = stored_count l.sym l.planes * l.gammas
 abbrev pub values : List Piece → Layout → List ℕ
 values all l = intensities l.scale all (43 + l.planes + l.gammas) (value_count l)
 
--- the tests of the lists: the C angles, their span, the gamma angles, the values, and that only blank lines follow
+-- the tests of the C angles, and of their span
+unfoldable pub c_angle_duties : List Piece → Layout → List (Duty LdtFault)
+c_angle_duties all l =
+    each l.planes (angle_duty 0 360000 (unread_gap l.sym l.planes) all 43)
+    ∷ unless (is_span l.sym l.planes (c_angles all l)) Span
+    ∷ []
+
+-- the tests of the lists: the C angles, the gamma angles, the values, and that only blank lines follow
 unfoldable pub list_duties : List Piece → Layout → List (Duty LdtFault)
 list_duties all l =
-    each l.planes (angle_duty 0 360000 (gap l.sym l.planes) all 43)
-    ∷ unless (is_span l.sym l.planes (c_angles all l)) Span
+    first (c_angle_duties all l)
     ∷ each l.gammas (angle_duty 1 180000 no_gap all (43 + l.planes))
     ∷ each (value_count l) (value_duty l.scale all (43 + l.planes + l.gammas))
     ∷ only_blanks all (43 + l.planes + l.gammas + value_count l)

@@ -3,7 +3,7 @@ use Rattle.std.specs.Prelude.{ℕ, ◌-◌, ◌*◌, ◌%◌, ◌^◌, ◌==◌,
 use Rattle.duties.specs.Duties.{Duty, unless, first}
 use Rattle.lux_lines.specs.Places.{Piece}
 use Rattle.lux_num.specs.declared.decimal.Decimal.{Decimal}
-use Rattle.lux_num.specs.Scaled.{cut, is_limited}
+use Rattle.lux_num.specs.Scaled.{cut_value, is_limited}
 use Rattle.photo_web.specs.declared.photometry.SymKind.{SymKind}
 use Rattle.eulumdat_reader.specs.declared.faults.LdtFault.{LdtFault}
 use Rattle.eulumdat_reader.specs.declared.faults.LdtFault.TheVariants.{Symmetry, PlaneCount, GammaCount, Factor, LampSets}
@@ -30,8 +30,8 @@ count_duties all =
     ∷ []
 
 -- a number without its sign, cut to a whole number, at most the greatest of 64 bits
-abbrev pub clipped : Decimal → ℕ
-clipped number = min (cut number 0) (2 ^ 64 - 1)
+abbrev pub set_count : Decimal → ℕ
+set_count number = min (cut_value number 0) (2 ^ 64 - 1)
 
 -- Lines 7 to 26: distance of the gamma angles, names and date (8 to 12), sizes (13 to 21), downward flux fraction, light output
 -- ratio, conversion factor, tilt, number of lamp sets.
@@ -40,7 +40,7 @@ factor_duties all =
     any_rows all 7 17
     ∷ field all 24 (λ x. unless (is_limited 1000 x) (Factor 24))
     ∷ any_rows all 25 1
-    ∷ field all 26 (λ x. unless (is_whole_within 1 1 x) (LampSets (clipped x)))
+    ∷ field all 26 (λ x. unless (is_whole_within 1 1 x) (LampSets (set_count x)))
     ∷ []
 
 -- Lines 27 to 42: number of lamps, their type, total flux in lumens, colour appearance, colour rendering, watts, and ten direct
@@ -70,5 +70,5 @@ gammas all = count_of (number_at all 6)
 
 -- what the values are multiplied by: the flux in thousandths of a lumen times the conversion factor in millionths (that the
 -- factor multiplies is this project's own rule)
-abbrev pub scale : List Piece → ℕ
-scale all = cut (number_at all 29) 3 * cut (number_at all 24) 6
+abbrev pub value_scale : List Piece → ℕ
+value_scale all = cut_value (number_at all 29) 3 * cut_value (number_at all 24) 6

@@ -1,4 +1,4 @@
--- What the head of the code stands for.
+-- What the head of the code stands for. No contract of a public call speaks of it.
 use Rattle.eulumdat_reader.specs.declared.head.Head.{Head}
 use Rattle.eulumdat_reader.specs.Eulumdat.{Layout}
 

@@ -1,4 +1,4 @@
-pub mod Walks
+pub mod Cursors
 pub mod Rows
 pub mod Heads
 pub mod Planes

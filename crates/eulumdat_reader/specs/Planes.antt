@@ -1,7 +1,7 @@
 -- Which planes an EULUMDAT file stores. Which ones, where they start and in which order they stand is this project's own rule.
 use Rattle.std.specs.Prelude.{ℕ, ◌+◌, ◌-◌, ◌*◌, ◌/◌, ◌%◌, ◌==◌, ◌&&◌, ◌||◌, nat_lt, nat_le, Bool, true, if◌then◌else◌, List, [], ◌∷◌, ◌++◌, length, map, take, drop, reverse, slice_index}
 use Rattle.std.specs.List.{range_with_len, flat_map}
-use Rattle.photo_web.specs.Web.{row_from}
+use Rattle.photo_web.specs.Web.{row_values}
 use Rattle.symmetry.specs.Images.{spans}
 use Rattle.photo_web.specs.declared.photometry.SymKind.{SymKind}
 use Rattle.photo_web.specs.declared.photometry.SymKind.TheVariants.{Axis, Quadrant, Plane0, Plane90, Full}
@@ -34,12 +34,12 @@ stored_count Quadrant count = count / 4 + 1
 
 -- The places among the C lines that aren't read, since their planes aren't stored; for Axis no C line is read.
 -- For Plane90 the planes of the last quarter are stored, and then those of the first quarter and the next one.
-abbrev pub gap : SymKind → ℕ → Gap
-gap Full count = record { from = count; to = count }
-gap Axis count = record { from = 0; to = count }
-gap Plane0 count = record { from = count / 2 + 1; to = count }
-gap Plane90 count = record { from = count / 4 + 1; to = 3 * (count / 4) }
-gap Quadrant count = record { from = count / 4 + 1; to = count }
+abbrev pub unread_gap : SymKind → ℕ → Gap
+unread_gap Full count = record { from = count; to = count }
+unread_gap Axis count = record { from = 0; to = count }
+unread_gap Plane0 count = record { from = count / 2 + 1; to = count }
+unread_gap Plane90 count = record { from = count / 4 + 1; to = 3 * (count / 4) }
+unread_gap Quadrant count = record { from = count / 4 + 1; to = count }
 
 -- a place is outside a gap
 abbrev pub is_outside : Gap → ℕ → Bool
@@ -58,8 +58,8 @@ is_span Plane90 count angles =
 is_span Quadrant count angles = spans 0 90000 angles
 
 -- for Plane90 a plane stored at an angle stands for 180 degrees less the angle, modulo a full turn
-abbrev pub turned : ℕ → ℕ
-turned angle = (360000 + 180000 - angle) % 360000
+abbrev pub turned_angle : ℕ → ℕ
+turned_angle angle = (360000 + 180000 - angle) % 360000
 
 -- The planes of the web that are stored, in rising order, by the angles read, in the order of lines. For Plane90 the
 -- stored ones stand from 270 degrees on, and go on at 0; turned they rise in the other order.
@@ -67,12 +67,12 @@ abbrev pub stored_planes : SymKind → ℕ → List ℕ → List ℕ
 stored_planes Full count angles = angles
 stored_planes Axis count angles = 0 ∷ []
 stored_planes Plane0 count angles = angles
-stored_planes Plane90 count angles = map turned (reverse (drop (count / 4 + 1) angles ++ take (count / 4 + 1) angles))
+stored_planes Plane90 count angles = map turned_angle (reverse (drop (count / 4 + 1) angles ++ take (count / 4 + 1) angles))
 stored_planes Quadrant count angles = angles
 
 -- so many rows of a width, in the other order
 unfoldable pub reversed_rows : ℕ → ℕ → List ℕ → List ℕ
-reversed_rows count width values = flat_map (λ i. row_from width values (count - 1 - i)) (range_with_len 0 count)
+reversed_rows count width values = flat_map (λ i. row_values width values (count - 1 - i)) (range_with_len 0 count)
 
 -- The rows of the stored planes, by the values in the order of lines. For Plane90 these rows stand from 270 degrees on, as
 -- the stored planes do, so that they come the other way round.

@@ -4,7 +4,7 @@ use Rattle.duties.specs.Duties.{Duty, unless, first, each}
 use Rattle.lux_lines.specs.Places.{Piece}
 use Rattle.lux_lines.specs.Lines.{lines}
 use Rattle.lux_lines.specs.Walks.{LinesRead}
-use Rattle.lux_lines.specs.Ends.{trimmed}
+use Rattle.lux_lines.specs.Ends.{without_spaces}
 use Rattle.lux_num.specs.declared.decimal.Decimal.{Decimal}
 use Rattle.lux_num.specs.declared.decimal.NumFault.{NumFault}
 use Rattle.lux_num.specs.Decimal.{number_of}
@@ -20,8 +20,8 @@ abbrev pub is_comma : ℕ → Bool
 is_comma byte = byte == 44
 
 -- a text whose first comma is a point
-unfoldable pub pointed : List ℕ → List ℕ
-pointed text = at_comma (position is_comma text)
+unfoldable pub with_point : List ℕ → List ℕ
+with_point text = at_comma (position is_comma text)
   where
     at_comma : Option ℕ → List ℕ
     at_comma None = text
@@ -29,7 +29,7 @@ pointed text = at_comma (position is_comma text)
 
 -- what a line says as a number: without blanks and tabs at both ends, and its first comma a point
 abbrev pub reading : List ℕ → Result Decimal NumFault
-reading line = number_of (pointed (trimmed line))
+reading line = number_of (with_point (without_spaces line))
 
 -- the number that a line is; zero where it is none
 unfoldable pub row_number : List ℕ → Decimal
@@ -40,8 +40,8 @@ row_number line = or_zero (reading line)
     or_zero (Err fault) = zero_number
 
 -- a line is a number; else the fault has the line's number
-unfoldable pub numeric_row : ℕ → List ℕ → Duty LdtFault
-numeric_row row line = of_reading (reading line)
+unfoldable pub row_number_duty : ℕ → List ℕ → Duty LdtFault
+row_number_duty row line = of_reading (reading line)
   where
     of_reading : Result Decimal NumFault → Duty LdtFault
     of_reading (Ok number) = None
@@ -60,28 +60,28 @@ number_at all row = or_zero (row_at all row)
     or_zero (Some line) = row_number line.text
 
 -- a line is there
-unfoldable pub present : List Piece → ℕ → Duty LdtFault
-present all row = unless (is_some (row_at all row)) (Short row)
+unfoldable pub presence_duty : List Piece → ℕ → Duty LdtFault
+presence_duty all row = unless (is_some (row_at all row)) (Short row)
 
 -- a line is there and is a number
-unfoldable pub numeric : List Piece → ℕ → Duty LdtFault
-numeric all row = of_line (row_at all row)
+unfoldable pub number_duty : List Piece → ℕ → Duty LdtFault
+number_duty all row = of_line (row_at all row)
   where
     of_line : Option Piece → Duty LdtFault
     of_line None = Some (Short row)
-    of_line (Some line) = numeric_row row line.text
+    of_line (Some line) = row_number_duty row line.text
 
 -- a line is there, is a number, and that number passes its rule
 unfoldable pub field : List Piece → ℕ → (Decimal → Duty LdtFault) → Duty LdtFault
-field all row rule = first (numeric all row ∷ rule (number_at all row) ∷ [])
+field all row rule = first (number_duty all row ∷ rule (number_at all row) ∷ [])
 
 -- so many lines from one on are there, whatever they say
 unfoldable pub any_rows : List Piece → ℕ → ℕ → Duty LdtFault
-any_rows all row count = each count (λ i. present all (row + i))
+any_rows all row count = each count (λ i. presence_duty all (row + i))
 
 -- a line has only blanks and tabs
 unfoldable pub blank_row : Piece → Duty LdtFault
-blank_row line = unless (length (trimmed line.text) == 0) (Trailing line.number)
+blank_row line = unless (length (without_spaces line.text) == 0) (Trailing line.number)
 
 -- from a line on, all lines have only blanks and tabs
 unfoldable pub only_blanks : List Piece → ℕ → Duty LdtFault

@@ -2,10 +2,10 @@
 ghost use Rattle.std.specs.Prelude.{◌≡◌, ◌+◌, ◌*◌, ◌≤◌, ◌^◌, IfOk, OnOk};
 ghost use Rattle.duties.specs.Duties.{Answers, unless};
 ghost use Rattle.lux_lines.specs.Pieces.{line_piece};
-ghost use Rattle.lux_num.specs.Scaled.{cut, is_limited};
+ghost use Rattle.lux_num.specs.Scaled.{cut_value, is_limited};
 ghost use Rattle.photo_numbers.specs.Numbers.{count_of, is_whole_within};
 ghost use Rattle.eulumdat_reader.specs.declared.faults.LdtFault.TheVariants.{Memory};
-ghost use Rattle.eulumdat_reader.specs.Rows.{all_lines, number_at, numeric, field, any_rows, blank_row, only_blanks};
+ghost use Rattle.eulumdat_reader.specs.Rows.{all_lines, number_at, number_duty, field, any_rows, blank_row, only_blanks};
 
 use crate::LdtFault;
 use crate::rows::Rows;
@@ -15,7 +15,7 @@ use photo_numbers::whole_within;
 
 /// The next line as a number.
 pub(crate) fn read_number(source: &mut Rows) -> Result<Decimal, LdtFault>
-    ensures answer { Answers Memory (numeric (all_lines source.old) (source.old.read + 1)) result }
+    ensures answer { Answers Memory (number_duty (all_lines source.old) (source.old.read + 1)) result }
     ensures value { IfOk result (λ number. number ≡ number_at (all_lines source.old) (source.old.read + 1)) }
     ensures same { OnOk result (source.new.text ≡ source.old.text) }
     ensures next { OnOk result (source.new.read ≡ source.old.read + 1) }
@@ -67,7 +67,7 @@ pub(crate) fn read_factor(
 ) -> Result<u128, LdtFault>
     requires { places ≤ 9 }
     ensures answer { Answers Memory (field (all_lines source.old) (source.old.read + 1) (λ x. unless (is_limited most x) fault)) result }
-    ensures value { IfOk result (λ factor. factor ≡ cut (number_at (all_lines source.old) (source.old.read + 1)) places) }
+    ensures value { IfOk result (λ factor. factor ≡ cut_value (number_at (all_lines source.old) (source.old.read + 1)) places) }
     ensures bound { IfOk result (λ factor. factor ≤ most * 10 ^ places) }
     ensures same { OnOk result (source.new.text ≡ source.old.text) }
     ensures next { OnOk result (source.new.read ≡ source.old.read + 1) }

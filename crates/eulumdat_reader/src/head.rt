@@ -1,12 +1,12 @@
 // Lines 1 to 42.
 ghost use Rattle.std.specs.Prelude.{◌≡◌, ◌+◌, ◌%◌, ◌≤◌, ◌^◌, IfOk, IfSome, OnOk, is_some};
 ghost use Rattle.duties.specs.Duties.{Answers, first, unless};
-ghost use Rattle.lux_num.specs.Scaled.{cut};
+ghost use Rattle.lux_num.specs.Scaled.{cut_value};
 ghost use Rattle.photo_numbers.specs.Numbers.{count_of, is_whole_within};
 ghost use Rattle.eulumdat_reader.specs.declared.faults.LdtFault.TheVariants.{Memory, PlaneCount, LampSets};
 ghost use Rattle.eulumdat_reader.specs.Rows.{all_lines, number_at, field};
 ghost use Rattle.eulumdat_reader.specs.Planes.{divisor};
-ghost use Rattle.eulumdat_reader.specs.Heads.{count_duties, factor_duties, flux_duties, head_duties, symmetry, planes, gammas, scale, is_plane_count, clipped};
+ghost use Rattle.eulumdat_reader.specs.Heads.{count_duties, factor_duties, flux_duties, head_duties, symmetry, planes, gammas, value_scale, is_plane_count, set_count};
 
 use crate::LdtFault;
 use crate::fields::{read_factor, read_number, read_whole, skip_rows};
@@ -52,7 +52,7 @@ pub(crate) fn read_head(source: &mut Rows) -> Result<Head, LdtFault>
     ensures sym { IfOk result (λ head. head.sym ≡ symmetry (all_lines source.old)) }
     ensures planes { IfOk result (λ head. head.planes ≡ planes (all_lines source.old)) }
     ensures gammas { IfOk result (λ head. head.gammas ≡ gammas (all_lines source.old)) }
-    ensures scale { IfOk result (λ head. head.scale ≡ scale (all_lines source.old)) }
+    ensures scale { IfOk result (λ head. head.scale ≡ value_scale (all_lines source.old)) }
     ensures same { OnOk result (source.new.text ≡ source.old.text) }
     ensures next { OnOk result (source.new.read ≡ 42) }
 {
@@ -129,7 +129,7 @@ fn plane_count(number: &Decimal, sym: SymKind) -> Option<u32>
 fn read_conversion(source: &mut Rows) -> Result<u128, LdtFault>
     requires { source.old.read ≡ 6 }
     ensures answer { Answers Memory (first (factor_duties (all_lines source.old))) result }
-    ensures value { IfOk result (λ factor. factor ≡ cut (number_at (all_lines source.old) 24) 6) }
+    ensures value { IfOk result (λ factor. factor ≡ cut_value (number_at (all_lines source.old) 24) 6) }
     ensures bound { IfOk result (λ factor. factor ≤ 10 ^ 9) }
     ensures same { OnOk result (source.new.text ≡ source.old.text) }
     ensures next { OnOk result (source.new.read ≡ 26) }
@@ -144,7 +144,7 @@ fn read_conversion(source: &mut Rows) -> Result<u128, LdtFault>
 // That the next line is one lamp set.
 #[tactic(auto, using(duties::proofs::Orders::steps), unfolding(crate::specs::Rows::field))]
 fn read_lamp_sets(source: &mut Rows) -> Result<(), LdtFault>
-    ensures answer { Answers Memory (field (all_lines source.old) (source.old.read + 1) (λ x. unless (is_whole_within 1 1 x) (LampSets (clipped x)))) result }
+    ensures answer { Answers Memory (field (all_lines source.old) (source.old.read + 1) (λ x. unless (is_whole_within 1 1 x) (LampSets (set_count x)))) result }
     ensures same { OnOk result (source.new.text ≡ source.old.text) }
     ensures next { OnOk result (source.new.read ≡ source.old.read + 1) }
 {
@@ -152,14 +152,14 @@ fn read_lamp_sets(source: &mut Rows) -> Result<(), LdtFault>
     match whole_within(&number, 1, 1) {
         Some(_) => Ok(()),
         None => Err(LdtFault::LampSets {
-            n: clipped(&number),
+            n: set_count(&number),
         }),
     }
 }
 
 // The number without its sign, cut to a whole number, at most the greatest of 64 bits.
-fn clipped(number: &Decimal) -> u64
-    ensures { result ≡ clipped number.now }
+fn set_count(number: &Decimal) -> u64
+    ensures { result ≡ set_count number.now }
 {
     match number.to_fixed(0) {
         Some(value) => value.min(u128::from(u64::MAX)) as u64,
@@ -172,7 +172,7 @@ fn clipped(number: &Decimal) -> u64
 fn read_flux(source: &mut Rows) -> Result<u128, LdtFault>
     requires { source.old.read ≡ 26 }
     ensures answer { Answers Memory (first (flux_duties (all_lines source.old))) result }
-    ensures value { IfOk result (λ flux. flux ≡ cut (number_at (all_lines source.old) 29) 3) }
+    ensures value { IfOk result (λ flux. flux ≡ cut_value (number_at (all_lines source.old) 29) 3) }
     ensures bound { IfOk result (λ flux. flux ≤ 10 ^ 11) }
     ensures same { OnOk result (source.new.text ≡ source.old.text) }
     ensures next { OnOk result (source.new.read ≡ 42) }

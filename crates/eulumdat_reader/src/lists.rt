@@ -2,21 +2,25 @@
 ghost use Rattle.std.specs.Prelude.{◌≡◌, ◌+◌, ◌-◌, ◌<◌, ◌≤◌, ◌^◌, ◌∷◌, ◌++◌, [], not, false, All, IfOk, IfSome, OnOk, length, is_some};
 ghost use Rattle.std.specs.List.Sorted.{IsStrictlyIncreasing};
 ghost use Rattle.duties.specs.Duties.{Answers, each, unless, first};
-ghost use Rattle.lux_num.specs.Scaled.{is_negative};
+ghost use Rattle.photo_numbers.specs.Intensities.{intensity_of, intensity_duty};
 ghost use Rattle.photo_numbers.specs.Numbers.{angle_of, is_angle};
 ghost use Rattle.eulumdat_reader.specs.declared.faults.LdtFault.TheVariants.{Memory, NegativeIntensity, TooBright};
 ghost use Rattle.eulumdat_reader.specs.Rows.{all_lines, number_at, field};
 ghost use Rattle.eulumdat_reader.specs.Angles.{angles, angle_duty, least_behind};
-ghost use Rattle.eulumdat_reader.specs.Intensities.{value_duty, intensities, intensity_of, is_intensity};
+ghost use Rattle.eulumdat_reader.specs.Intensities.{value_duty, intensities};
 
 use crate::LdtFault;
 use crate::fields::read_number;
 use crate::gaps::{Gap, is_outside};
 use crate::rows::Rows;
-use lux_num::Decimal;
-use photo_numbers::angle_within;
-use photo_web::MOST_INTENSITY;
+use photo_numbers::{angle_within, intensity_within};
 use std::alloc::Global;
+
+// The most that a value may be, in candela for 1000 lumens.
+const MOST_VALUE: u64 = 10_000_000;
+
+// A scale of so much is 1: 1000 lumens in thousandths, times 1 in millionths.
+const SCALE_UNITS: u64 = 1_000_000_000_000;
 
 /// A list of so many lines of angles of at most `most`, each above the one read before it. The lines in a gap aren't read.
 pub(crate) fn read_angles(
@@ -88,7 +92,7 @@ fn least_behind(angles: &[u32], most: u32) -> u32
     }
 }
 
-/// So many values times a scale (10^15 of which are one), as intensities in microcandela.
+/// So many values times a scale (10^12 of which are 1), as intensities in microcandela.
 pub(crate) fn read_values(
     alloc: Global,
     source: &mut Rows,
@@ -112,11 +116,11 @@ pub(crate) fn read_values(
 }
 
 // The next line as an intensity.
-#[tactic(auto, using(duties::proofs::Orders::steps), unfolding(crate::specs::Rows::field))]
+#[tactic(auto, using(duties::proofs::Orders::steps), unfolding(crate::specs::Rows::field, photo_numbers::specs::Intensities::intensity_duty))]
 fn read_value(source: &mut Rows, scale: u128, at: u32) -> Result<u64, LdtFault>
     requires { scale ≤ 10 ^ 20 }
-    ensures answer { Answers Memory (field (all_lines source.old) (source.old.read + 1) (λ x. first (unless (not (is_negative x)) (NegativeIntensity at) ∷ unless (is_intensity scale x) (TooBright at) ∷ []))) result }
-    ensures value { IfOk result (λ value. value ≡ intensity_of scale (number_at (all_lines source.old) (source.old.read + 1))) }
+    ensures answer { Answers Memory (field (all_lines source.old) (source.old.read + 1) (intensity_duty (10 ^ 7) (10 ^ 12) scale (NegativeIntensity at) (TooBright at))) result }
+    ensures value { IfOk result (λ value. value ≡ intensity_of (10 ^ 12) scale (number_at (all_lines source.old) (source.old.read + 1))) }
     ensures limited { IfOk result (λ value. value ≤ 10 ^ 15) }
     ensures same { OnOk result (source.new.text ≡ source.old.text) }
     ensures next { OnOk result (source.new.read ≡ source.old.read + 1) }
@@ -125,25 +129,8 @@ fn read_value(source: &mut Rows, scale: u128, at: u32) -> Result<u64, LdtFault>
     if number.is_negative() {
         return Err(LdtFault::NegativeIntensity { at });
     }
-    match intensity(&number, scale) {
+    match intensity_within(&number, MOST_VALUE, SCALE_UNITS, scale) {
         Some(value) => Ok(value),
         None => Err(LdtFault::TooBright { at }),
     }
-}
-
-// The intensity of a value that isn't negative, where it is at most 10^7 and its intensity at most 10^15 microcandela.
-#[tactic(auto, using(std::proofs::lemmas::Bool::Decides::nat_tests))]
-fn intensity(number: &Decimal, scale: u128) -> Option<u64>
-    requires scale { scale ≤ 10 ^ 20 }
-    requires sign { is_negative number.now ≡ false }
-    ensures exactly { is_some result ≡ is_intensity scale number.now }
-    ensures value { IfSome result (λ value. value ≡ intensity_of scale number.now) }
-    ensures limited { IfSome result (λ value. value ≤ 10 ^ 15) }
-{
-    let value = number.cut_within(9, 10_000_000)?;
-    let intensity = value * scale / 1_000_000_000_000_000;
-    if intensity > u128::from(MOST_INTENSITY) {
-        return None;
-    }
-    Some(intensity as u64)
 }

@@ -1,9 +1,9 @@
 // Which planes a file stores.
 ghost use Rattle.std.specs.Prelude.{◌≡◌, ◌+◌, ◌-◌, ◌*◌, ◌<◌, ◌≤◌, ◌^◌, ◌%◌, All, IfOk, IsTrue, length, map, reverse, take, drop, slice_index, ◌++◌};
 ghost use Rattle.std.specs.List.Sorted.{IsStrictlyIncreasing};
-ghost use Rattle.photo_web.specs.Web.{row_from};
+ghost use Rattle.photo_web.specs.Web.{row_values};
 ghost use Rattle.symmetry.specs.Images.{has_span, spans};
-ghost use Rattle.eulumdat_reader.specs.Planes.{symmetry_of, divisor, stored_count, gap, is_span, turned, stored_planes, reversed_rows, stored_rows};
+ghost use Rattle.eulumdat_reader.specs.Planes.{symmetry_of, divisor, stored_count, unread_gap, is_span, turned_angle, stored_planes, reversed_rows, stored_rows};
 
 use crate::gaps::Gap;
 use photo_web::{FULL_TURN, HALF_TURN, SymKind};
@@ -50,11 +50,11 @@ pub(crate) fn stored_count(sym: SymKind, count: u32) -> u32
 }
 
 /// The places among the C lines that aren't read.
-pub(crate) fn gap(sym: SymKind, count: u32) -> Gap
+pub(crate) fn unread_gap(sym: SymKind, count: u32) -> Gap
     requires some { 1 ≤ count }
     requires few { count ≤ 360 }
     requires whole { count % divisor sym ≡ 0 }
-    ensures value { result ≡ gap sym count }
+    ensures value { result ≡ unread_gap sym count }
     ensures forth { result.from ≤ result.to }
     ensures inside { result.to ≤ count }
 {
@@ -124,7 +124,7 @@ pub(crate) fn stored_planes(
     requires some { 1 ≤ count }
     requires few { count ≤ 360 }
     requires whole { count % divisor sym ≡ 0 }
-    requires len { length angles.items + ((gap sym count).to - (gap sym count).from) ≡ count }
+    requires len { length angles.items + ((unread_gap sym count).to - (unread_gap sym count).from) ≡ count }
     requires rising { IsStrictlyIncreasing angles.items }
     requires limited { All (λ angle. angle ≤ 360000) angles.items }
     requires span { IsTrue (is_span sym count angles.items) }
@@ -149,19 +149,19 @@ pub(crate) fn stored_planes(
 // Planes from behind some front ones on, going on with these, turned and the other way round.
 fn turned_planes(alloc: Global, angles: &[u32], front: usize) -> Result<Vec<u32>, AllocError>
     requires { front ≤ length angles.now }
-    ensures { IfOk result (λ v. v.items ≡ map turned (reverse (take front angles.now) ++ reverse (drop front angles.now))) }
+    ensures { IfOk result (λ v. v.items ≡ map turned_angle (reverse (take front angles.now) ++ reverse (drop front angles.now))) }
 {
     angles[..front]
         .iter()
         .rev()
         .chain(angles[front..].iter().rev())
-        .map(|angle| turned(*angle))
+        .map(|angle| turned_angle(*angle))
         .collect(alloc)
 }
 
 // 180 degrees less an angle, modulo a full turn.
-fn turned(angle: u32) -> u32
-    ensures { result ≡ turned angle }
+fn turned_angle(angle: u32) -> u32
+    ensures { result ≡ turned_angle angle }
 {
     (FULL_TURN + HALF_TURN).saturating_sub(angle) % FULL_TURN
 }
@@ -219,7 +219,7 @@ fn row(values: &[u64], width: usize, place: usize) -> &[u64]
     requires width { width ≤ 721 }
     requires few { place ≤ 361 }
     requires inside { (place + 1) * width ≤ length values.now }
-    ensures value { result.now ≡ row_from width values.now place }
+    ensures value { result.now ≡ row_values width values.now place }
     ensures len { length result.now ≡ width }
 {
     &values[place * width..(place + 1) * width]

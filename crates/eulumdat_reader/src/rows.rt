@@ -2,7 +2,7 @@
 ghost use Rattle.std.specs.Prelude.{◌≡◌, ◌+◌, ◌<◌, ◌^◌, Some, OnOk, IfOk, IfSome, length, position};
 ghost use Rattle.duties.specs.Duties.{Answers};
 ghost use Rattle.eulumdat_reader.specs.declared.faults.LdtFault.TheVariants.{Memory};
-ghost use Rattle.eulumdat_reader.specs.Rows.{all_lines, numeric_row, row_number, row_at, present, is_comma, reading};
+ghost use Rattle.eulumdat_reader.specs.Rows.{all_lines, row_number_duty, row_number, row_at, presence_duty, is_comma, reading};
 
 use crate::LdtFault;
 use lux_lines::{Line, Lines, trim};
@@ -21,7 +21,7 @@ pub(crate) struct Rows<'a> {
 
 impl<'a> Model for Rows<'a> {
     ghost use Rattle.lux_lines.specs.Walks.{LinesRead};
-    ghost use Rattle.eulumdat_reader.specs.Walks.{IsCounted};
+    ghost use Rattle.eulumdat_reader.specs.Cursors.{IsCounted};
 
     ghost Value = { LinesRead };
 
@@ -62,7 +62,7 @@ impl<'a> Rows<'a> {
 
     /// The next line, which has to be there.
     pub(crate) fn row(&mut self) -> Result<Line<'a>, LdtFault>
-        ensures answer { Answers Memory (present (all_lines self.old) (self.old.read + 1)) result }
+        ensures answer { Answers Memory (presence_duty (all_lines self.old) (self.old.read + 1)) result }
         ensures line { IfOk result (λ line. row_at (all_lines self.old) (self.old.read + 1) ≡ Some (line_piece line)) }
         ensures number { IfOk result (λ line. line.number ≡ self.old.read + 1) }
         ensures short { IfOk result (λ line. length line.text.now < 2 ^ 31) }
@@ -78,10 +78,10 @@ impl<'a> Rows<'a> {
     }
 
     /// What a line says as a number.
-    #[tactic(auto, unfolding(crate::specs::Rows::numeric_row, crate::specs::Rows::row_number))]
+    #[tactic(auto, unfolding(crate::specs::Rows::row_number_duty, crate::specs::Rows::row_number))]
     pub(crate) fn number_of(&mut self, line: &Line) -> Result<Decimal, LdtFault>
         requires { length line.now.text.now < 2 ^ 31 }
-        ensures answer { Answers Memory (numeric_row line.now.number line.now.text.now) result }
+        ensures answer { Answers Memory (row_number_duty line.now.number line.now.text.now) result }
         ensures value { IfOk result (λ number. number ≡ row_number line.now.text.now) }
         ensures same { self.new ≡ self.old }
     {
@@ -96,7 +96,7 @@ impl<'a> Rows<'a> {
 }
 
 // What a line says as a number, without blanks and tabs at both ends, and with its first comma as a point.
-#[tactic(auto, unfolding(crate::specs::Rows::pointed))]
+#[tactic(auto, unfolding(crate::specs::Rows::with_point))]
 fn reading(copy: &mut Vec<u8>, line: &[u8]) -> Result<Result<Decimal, NumFault>, AllocError>
     requires { length line.now < 2 ^ 31 }
     ensures { IfOk result (λ said. said ≡ reading line.now) }

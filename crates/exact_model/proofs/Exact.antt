@@ -9,7 +9,7 @@ use Rattle.exact_model.specs.Elimination.{equations_of, solution_of}
 use Rattle.exact_model.specs.Laws.{EverySystemHasASolution, PatchesKeepTheDirectFlux, SolutionsAgree}
 use Rattle.exact_model.proofs.Signed.{sum-pos}
 use Rattle.exact_model.proofs.Rows.{scaled, same_solution}
-use Rattle.exact_model.proofs.Existence.{eliminated_solve}
+use Rattle.exact_model.proofs.Existence.{elimination_solves}
 use Rattle.exact_model.proofs.Solutions.{rows_below, never_negative, in_naturals, keeps_source}
 
 -- an equation in natural numbers, and the same in signed ones
@@ -22,7 +22,7 @@ from_signed n k s c y j e = ap up (e ∙ ap (λ (z : ℤ). pos s +ℤ z) (sum-po
 pub has_a_solution : EverySystemHasASolution
 has_a_solution s flux valid =
     let f = solution_of s flux in
-    let solved = eliminated_solve (patches s) (equations_of s flux) (omega arith) (rows_below s valid) in
+    let solved = elimination_solves (patches s) (equations_of s flux) (omega arith) (rows_below s valid) in
     record {
       positive = solved.positive;
       equation = λ j h. to_signed (patches s) scale (f.den * (scale * flux j)) (λ i. coefficient s i j) f.num j (solved.equation j h);

@@ -5,7 +5,7 @@ use native.Mathlib.Decide.{ℕ_discrete}
 use Rattle.std.proofs.lemmas.Nat.{mul-le}
 use Rattle.flux_system.specs.Sums.{sum_below}
 use Rattle.flux_system.proofs.Sums.{sum-same, sum-add, sum-scale}
-use Rattle.exact_model.specs.Elimination.{Equations, Fractions, left_at, without, put_back, eliminated}
+use Rattle.exact_model.specs.Elimination.{Equations, Fractions, remaining_scale, equations_without, fluxes_with, elimination_fluxes}
 
 -- the fluxes solve the equations of the first n patches
 pub record AreSolved (n : ℕ) (e : Equations) (f : Fractions) : Type 0 where
@@ -47,7 +47,7 @@ module _ (z k : ℕ) (c : ℕ → ℕ → ℕ) (rows : (i : ℕ) → i < suc z �
     whole = record { scale = k; passes = c; source = b }
 
     abbrev back : ℕ → ℕ
-    back = (put_back z whole f).num
+    back = (fluxes_with z whole f).num
 
     abbrev last : ℕ
     last = f.den * b z + sum_below z (λ i. c i z * f.num i)
@@ -83,7 +83,7 @@ module _ (z k : ℕ) (c : ℕ → ℕ → ℕ) (rows : (i : ℕ) → i < suc z �
         let split = ap (λ (t : ℕ). t * last) d_is in
         omega arith
 
-    module _ (solved : AreSolved z (without z whole) f) where
+    module _ (solved : AreSolved z (equations_without z whole) f) where
       at_other : (j : ℕ) → j < z → Equation j
       at_other j h =
           let rest = from_others j in
@@ -93,17 +93,17 @@ module _ (z k : ℕ) (c : ℕ → ℕ → ℕ) (rows : (i : ℕ) → i < suc z �
           let old = solved.equation j h in
           omega arith
 
-      one_more : AreSolved (suc z) whole (put_back z whole f)
+      one_more : AreSolved (suc z) whole (fluxes_with z whole f)
       one_more = record {
         positive = let p = solved.positive in let q = d_pos in let m = mul-le 1 1 d f.den (omega arith) (omega arith) in omega arith;
         equation = λ j h. dite (ℕ_discrete j z) (λ e. subst Equation (sym e) at_last) (λ ne. at_other j (omega arith));
       }
 
 -- and so all of them, one patch after the other
-pub eliminated_solve : (n : ℕ) (e : Equations) → 0 < e.scale → ((i : ℕ) → i < n → sum_below n (e.passes i) < e.scale) → AreSolved n e (eliminated n e)
-unfolding eliminated
-eliminated_solve zero e some rows = record { positive = omega arith; equation = λ j h. absurd (omega arith) }
-eliminated_solve (suc z) e some rows =
+pub elimination_solves : (n : ℕ) (e : Equations) → 0 < e.scale → ((i : ℕ) → i < n → sum_below n (e.passes i) < e.scale) → AreSolved n e (elimination_fluxes n e)
+unfolding elimination_fluxes
+elimination_solves zero e some rows = record { positive = omega arith; equation = λ j h. absurd (omega arith) }
+elimination_solves (suc z) e some rows =
     let left = d_pos z e.scale e.passes rows in
-    let product = mul-le 1 1 e.scale (left_at z e) (omega arith) (omega arith) in
-    one_more z e.scale e.passes rows e.source _ (eliminated_solve z (without z e) (omega arith) (fewer_rows z e.scale e.passes rows))
+    let product = mul-le 1 1 e.scale (remaining_scale z e) (omega arith) (omega arith) in
+    one_more z e.scale e.passes rows e.source _ (elimination_solves z (equations_without z e) (omega arith) (fewer_rows z e.scale e.passes rows))

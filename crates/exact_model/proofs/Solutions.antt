@@ -6,14 +6,14 @@ use Rattle.flux_system.specs.Sums.{sum_below}
 use Rattle.flux_system.specs.System.{FluxSystem, scale, patches, coefficient, keep}
 use Rattle.flux_system.specs.Validity.{IsSystem}
 use Rattle.flux_system.proofs.Sums.{sum-scale}
-use Rattle.flux_system.proofs.Keeping.{passed-lt}
+use Rattle.flux_system.proofs.Keeping.{passed_part-lt}
 use Rattle.exact_model.specs.Solution.{sum_signed, Solves}
 use Rattle.exact_model.specs.Laws.{FluxIsNowhereNegative, PatchesKeepTheSource}
 use Rattle.exact_model.proofs.Signed.{is_pos}
 use Rattle.exact_model.proofs.Rows.{row, kept_is_source, no_debt, natural}
 
 pub rows_below : (s : FluxSystem) → IsSystem s → (i : ℕ) → i < patches s → row (patches s) (coefficient s) i < scale
-rows_below s valid i h = let lt = passed-lt s valid i h in omega arith
+rows_below s valid i h = let lt = passed_part-lt s valid i h in omega arith
 
 -- a solution in natural numbers, and what follows from its equation
 pub record IsNatural (s : FluxSystem) (source : ℕ → ℕ) (num : ℕ → ℤ) (den : ℕ) (m : ℕ → ℕ) : Type 0 where

@@ -3,7 +3,7 @@ use Rattle.std.proofs.Common.{◌≡◌, ℕ, ◌+◌, ◌*◌, ◌<◌, ◌≤�
 use Rattle.std.specs.List.{sum}
 use Rattle.std.proofs.lemmas.Nat.{mul-le}
 use Rattle.flux_system.specs.Sums.{sum_below}
-use Rattle.flux_system.specs.System.{FluxSystem, scale, patches, coefficient, passed, keep, least_keep}
+use Rattle.flux_system.specs.System.{FluxSystem, scale, patches, coefficient, passed_part, keep, least_keep}
 use Rattle.flux_system.specs.Validity.{IsSystem}
 use Rattle.flux_system.proofs.Sums.{sum-same, sum-add, sum-scale, sum-swap, sum-le, le-sum, sum-places}
 use Rattle.flux_system.proofs.Keeping.{keep-above, least_keep-above, least_keep-le}
@@ -39,10 +39,10 @@ module _ (s : FluxSystem) (valid : IsSystem s) (l : Ledger) (b : Balances s l) w
       let right = sum-add n (λ j. scale * get_or l.direct j 0) (passed_to s l.taken) in
       let right_scaled = sum-scale n scale (λ j. get_or l.direct j 0) in
       let turned = sum-swap n n (λ i j. t i * coefficient s i j) in
-      let rows : sum_below n (λ i. sum_below n (λ j. t i * coefficient s i j)) ≡ sum_below n (λ i. t i * passed s i) = sum-same n _ _ (λ i h. sum-scale n (t i) (coefficient s i)) in
-      let both = sum-add n (λ i. t i * passed s i) (λ i. t i * keep s i) in
-      let whole : sum_below n (λ i. t i * passed s i + t i * keep s i) ≡ sum_below n (λ i. scale * t i) =
-      sum-same n _ _ (λ i h. let above = keep-above s valid i h in let is : passed s i + keep s i ≡ scale = omega arith in let m = ap (λ (y : ℕ). t i * y) is in omega arith) in
+      let rows : sum_below n (λ i. sum_below n (λ j. t i * coefficient s i j)) ≡ sum_below n (λ i. t i * passed_part s i) = sum-same n _ _ (λ i h. sum-scale n (t i) (coefficient s i)) in
+      let both = sum-add n (λ i. t i * passed_part s i) (λ i. t i * keep s i) in
+      let whole : sum_below n (λ i. t i * passed_part s i + t i * keep s i) ≡ sum_below n (λ i. scale * t i) =
+      sum-same n _ _ (λ i h. let above = keep-above s valid i h in let is : passed_part s i + keep s i ≡ scale = omega arith in let m = ap (λ (y : ℕ). t i * y) is in omega arith) in
       let direct = direct_sum in
       omega arith
 

@@ -16,5 +16,5 @@ head_lines l =
     codes "lux-ledger 1\npatches " ++ decimal (length l.direct) ++ codes "\nwins " ++ decimal l.wins ++ codes "\nparts " ++ decimal l.parts ++ codes "\n"
 
 -- the whole text: its head, and a line for each patch
-abbrev pub text_of : Ledger → List ℕ
-text_of l = head_lines l ++ flat_map (patch_line l) (range_with_len 0 (length l.direct))
+abbrev pub ledger_text : Ledger → List ℕ
+ledger_text l = head_lines l ++ flat_map (patch_line l) (range_with_len 0 (length l.direct))

@@ -25,13 +25,7 @@ impl Amounts {
         Amounts { values }
     }
 
-    /// Gives the vector back. Takes no memory.
-    pub fn into_vec(self) -> Vec<u64>
-        ensures { result.items ≡ self }
-    {
-        self.values
-    }
-
+    /// The numbers, patch by patch.
     pub fn as_slice(&self) -> &[u64]
         ensures { result.now ≡ self.now }
     {

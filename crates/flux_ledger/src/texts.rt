@@ -1,22 +1,14 @@
 // The ledger text.
 ghost use Rattle.std.specs.Prelude.{◌≡◌, ◌++◌, ◌<◌, OnOk, IfOk, length};
 ghost use Rattle.flux_ledger.specs.Balance.{HasPatches};
-ghost use Rattle.flux_ledger.specs.LedgerText.{head_lines, patch_line, text_of};
+ghost use Rattle.flux_ledger.specs.LedgerText.{head_lines, patch_line, ledger_text};
 
 use crate::Ledger;
-use itoa::{Buffer, Integer};
+use lux_texts::push_number;
 use std::alloc::{AllocError, Global};
 
 // No line of a ledger with fewer than 10,000,000 patches is longer.
 const MOST_LINE_BYTES: usize = 128;
-
-// Appends a text, and then a number in its digits.
-fn push_number<N: Integer>(text: &mut Vec<u8>, before: &[u8], number: N) -> Result<(), AllocError>
-    ensures { OnOk result (text.new.items ≡ text.old.items ++ before.now ++ N.text number) }
-{
-    text.extend_from_slice(before)?;
-    text.extend_from_slice(Buffer::new().format(number).as_bytes())
-}
 
 // Appends the lines before those of the patches.
 fn push_head(text: &mut Vec<u8>, ledger: &Ledger) -> Result<(), AllocError>
@@ -47,7 +39,7 @@ fn push_patch(text: &mut Vec<u8>, ledger: &Ledger, patch: usize) -> Result<(), A
 /// The text of a ledger, whose lists have one length.
 pub fn ledger_text(alloc: Global, ledger: &Ledger) -> Result<Vec<u8>, AllocError>
     requires { HasPatches (length ledger.now.direct) ledger.now }
-    ensures { IfOk result (λ text. text.items ≡ text_of ledger.now) }
+    ensures { IfOk result (λ text. text.items ≡ ledger_text ledger.now) }
 {
     let patches = ledger.direct.as_slice().len();
     let room = patches.saturating_add(1).saturating_mul(MOST_LINE_BYTES);

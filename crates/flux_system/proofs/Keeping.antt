@@ -4,21 +4,22 @@ use Rattle.std.specs.Prelude.{slice_index}
 use Rattle.std.proofs.lemmas.List.FromFn.{length-map-range_with_len, get_or-map-range_with_len}
 use Rattle.std.proofs.lemmas.Nat.{mul-le}
 use Rattle.flux_system.specs.Sums.{least_below}
-use Rattle.flux_system.specs.System.{FluxSystem, scale, patches, share, row_total, coefficient, passed, keep, least_keep}
-use Rattle.flux_system.specs.Validity.{IsSystem, IsHeld}
+use Rattle.flux_system.specs.System.{FluxSystem, scale, patches, share, row_total, coefficient, passed_part, keep, least_keep}
+use Rattle.flux_system.specs.Validity.{IsSystem}
+use Rattle.flux_system.specs.Shapes.{IsSystemWithKept}
 use Rattle.flux_system.proofs.Sums.{sum-scale, least-same, least-le, least-above}
 
-pub passed-is : (s : FluxSystem) (i : ℕ) → passed s i ≡ slice_index s.reflectance i * row_total s i
+pub passed_part-is : (s : FluxSystem) (i : ℕ) → passed_part s i ≡ slice_index s.reflectance i * row_total s i
 unfolding coefficient
-passed-is s i = sum-scale (patches s) (slice_index s.reflectance i) (share s i)
+passed_part-is s i = sum-scale (patches s) (slice_index s.reflectance i) (share s i)
 
 -- what a patch keeps, by its reflectance and the total of its row
 pub kept-is : (s : FluxSystem) (i r t : ℕ) → r ≡ slice_index s.reflectance i → t ≡ row_total s i → scale - r * t ≡ keep s i
-kept-is s i r t r_is t_is = (λ k. scale - r_is k * t_is k) ∙ ap (λ (x : ℕ). scale - x) (sym (passed-is s i))
+kept-is s i r t r_is t_is = (λ k. scale - r_is k * t_is k) ∙ ap (λ (x : ℕ). scale - x) (sym (passed_part-is s i))
 
-pub passed-lt : (s : FluxSystem) → IsSystem s → (i : ℕ) → i < patches s → passed s i + 50000000000 < scale
-passed-lt s valid i h =
-    let is = passed-is s i in
+pub passed_part-lt : (s : FluxSystem) → IsSystem s → (i : ℕ) → i < patches s → passed_part s i + 50000000000 < scale
+passed_part-lt s valid i h =
+    let is = passed_part-is s i in
     let a = valid.reflectances i h in
     let b = valid.rows i h in
     let m = mul-le (slice_index s.reflectance i) (row_total s i) 950 999999999 a (omega arith) in
@@ -26,7 +27,7 @@ passed-lt s valid i h =
 
 -- each patch keeps a twentieth and more
 pub keep-above : (s : FluxSystem) → IsSystem s → (i : ℕ) → i < patches s → 50000000000 < keep s i
-keep-above s valid i h = let lt = passed-lt s valid i h in omega arith
+keep-above s valid i h = let lt = passed_part-lt s valid i h in omega arith
 
 pub least_keep-above : (s : FluxSystem) → IsSystem s → 50000000000 < least_keep s
 least_keep-above s valid = let some = valid.some in least-above (patches s) (keep s) 50000000000 (keep-above s valid 0 (omega arith)) (keep-above s valid)
@@ -35,14 +36,14 @@ pub least_keep-le : (s : FluxSystem) (i : ℕ) → i < patches s → least_keep 
 least_keep-le s i h = least-le (patches s) (keep s) i h
 
 -- the parts that a system holds
-pub held-length : (s : FluxSystem) (kept : List ℕ) → IsHeld s kept → length kept ≡ patches s
-held-length s kept held = ap length held.keeps ∙ length-map-range_with_len (keep s) 0 (patches s)
+pub length-kept : (s : FluxSystem) (kept : List ℕ) → IsSystemWithKept s kept → length kept ≡ patches s
+length-kept s kept held = ap length held.keeps ∙ length-map-range_with_len (keep s) 0 (patches s)
 
-pub held-keep : (s : FluxSystem) (kept : List ℕ) → IsHeld s kept → (i : ℕ) → i < patches s → get_or kept i 0 ≡ keep s i
-held-keep s kept held i h = ap (λ (xs : List ℕ). get_or xs i 0) held.keeps ∙ get_or-map-range_with_len (keep s) 0 (patches s) i i 0 h (omega arith)
+pub kept-at : (s : FluxSystem) (kept : List ℕ) → IsSystemWithKept s kept → (i : ℕ) → i < patches s → get_or kept i 0 ≡ keep s i
+kept-at s kept held i h = ap (λ (xs : List ℕ). get_or xs i 0) held.keeps ∙ get_or-map-range_with_len (keep s) 0 (patches s) i i 0 h (omega arith)
 
-pub held-least : (s : FluxSystem) (kept : List ℕ) → IsHeld s kept → least_below (length kept) (λ i. get_or kept i 0) ≡ least_keep s
-held-least s kept held =
+pub least-kept : (s : FluxSystem) (kept : List ℕ) → IsSystemWithKept s kept → least_below (length kept) (λ i. get_or kept i 0) ≡ least_keep s
+least-kept s kept held =
     let some = held.valid.some in
-    ap (λ (n : ℕ). least_below n (λ i. get_or kept i 0)) (held-length s kept held)
-    ∙ least-same (patches s) (λ i. get_or kept i 0) (keep s) (held-keep s kept held 0 (omega arith)) (held-keep s kept held)
+    ap (λ (n : ℕ). least_below n (λ i. get_or kept i 0)) (length-kept s kept held)
+    ∙ least-same (patches s) (λ i. get_or kept i 0) (keep s) (kept-at s kept held 0 (omega arith)) (kept-at s kept held)

@@ -20,8 +20,8 @@ module _ (s : FluxSystem) (direct : List ℕ) (flux : ℕ) (flux_is : flux ≡ s
         ap (λ (x : ℕ). Err (TooManyTakes x)) bound_is
         ∙ sym (judged_err _ _ _ (this_met _ _ (unless_holds _ _ (le-leb _ _ (omega arith))) ∙ this_fails _ _ _ (unless_fails _ _ (lt-leb _ _ (subst (λ (x : ℕ). 100000000 < x) bound_is h)))))
 
-    pub within : bound ≤ 100000000 → Ok bound ≡ judged (limit_duties s direct) (bound_of_takes s direct)
+    pub within_limits : bound ≤ 100000000 → Ok bound ≡ judged (limit_duties s direct) (bound_of_takes s direct)
     unfolding limit_duties
-    within h =
+    within_limits h =
         ap Ok bound_is
         ∙ sym (judged_ok _ _ (this_met _ _ (unless_holds _ _ (le-leb _ _ (omega arith))) ∙ (this_met _ _ (unless_holds _ _ (le-leb _ _ (subst (λ (x : ℕ). x ≤ 100000000) bound_is h))) ∙ none_left)))

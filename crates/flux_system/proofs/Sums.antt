@@ -69,17 +69,17 @@ module _ {V : Type 0} where
       ∙ (sym (sum-add n (λ i. f v i) (λ i. sum_by (λ w. f w i) vs)) ∙ sum-same n _ _ (λ i l. sym (sum_by-cons (λ w. f w i) v vs))))
 
 -- the sum of a list that is made of f
-pub sum-listed : (f : ℕ → ℕ) (n : ℕ) → sum (map f (range_with_len 0 n)) ≡ sum_below n f
-sum-listed f zero = refl
-sum-listed f (suc n) =
+pub sum-range : (f : ℕ → ℕ) (n : ℕ) → sum (map f (range_with_len 0 n)) ≡ sum_below n f
+sum-range f zero = refl
+sum-range f (suc n) =
     let more = sum_by-map-range_with_len_more (λ (x : ℕ). x) f 0 n n (omega arith) in
     let at : suc n ≡ n + 1 = omega arith in
-    let front = sum-listed f n in
+    let front = sum-range f n in
     ap (λ (k : ℕ). sum (map f (range_with_len 0 k))) at ∙ (more ∙ ap (λ (x : ℕ). x + f n) front)
 
 -- the sum of a list is that of its values by their places
 pub sum-places : (xs : List ℕ) → sum xs ≡ sum_below (length xs) (λ i. get_or xs i 0)
-sum-places xs = ap sum (fill_by_all (λ (i : ℕ). get_or xs i 0) xs (length xs) 0 refl (λ k h. refl)) ∙ sum-listed (λ (i : ℕ). get_or xs i 0) (length xs)
+sum-places xs = ap sum (fill_by_all (λ (i : ℕ). get_or xs i 0) xs (length xs) 0 refl (λ k h. refl)) ∙ sum-range (λ (i : ℕ). get_or xs i 0) (length xs)
 
 pub least-same : (n : ℕ) (f g : ℕ → ℕ) → f 0 ≡ g 0 → ((i : ℕ) → i < n → f i ≡ g i) → least_below n f ≡ least_below n g
 least-same zero f g first h = first

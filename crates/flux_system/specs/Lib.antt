@@ -2,3 +2,4 @@ pub mod Sums
 pub mod System
 pub mod Validity
 pub mod Limits
+pub mod Shapes

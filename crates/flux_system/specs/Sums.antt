@@ -1,6 +1,5 @@
 -- Sums and least values over the numbers below a count.
-use Rattle.std.specs.Prelude.{ℕ, ◌+◌, min}
-use Rattle.std.proofs.Common.{zero, suc}
+use Rattle.std.specs.Prelude.{ℕ, zero, suc, ◌+◌, min}
 
 -- the sum of f over the numbers below n
 abbrev pub sum_below : ℕ → (ℕ → ℕ) → ℕ

@@ -23,8 +23,8 @@ abbrev pub share : FluxSystem → ℕ → ℕ → ℕ
 share s i j = slice_index s.shares (i * patches s + j)
 
 -- row i of the shares
-abbrev pub row_of : FluxSystem → ℕ → List ℕ
-row_of s i = map (share s i) (range_with_len 0 (patches s))
+abbrev pub share_row : FluxSystem → ℕ → List ℕ
+share_row s i = map (share s i) (range_with_len 0 (patches s))
 
 -- the sum of row i of the shares
 abbrev pub row_total : FluxSystem → ℕ → ℕ
@@ -35,16 +35,16 @@ unfoldable pub coefficient : FluxSystem → ℕ → ℕ → ℕ
 coefficient s i j = slice_index s.reflectance i * share s i j
 
 -- what patch i passes on to all patches of one nanolumen that it takes
-abbrev pub passed : FluxSystem → ℕ → ℕ
-passed s i = sum_below (patches s) (coefficient s i)
+abbrev pub passed_part : FluxSystem → ℕ → ℕ
+passed_part s i = sum_below (patches s) (coefficient s i)
 
 -- what patch i keeps of one nanolumen that it takes
 abbrev pub keep : FluxSystem → ℕ → ℕ
-keep s i = scale - passed s i
+keep s i = scale - passed_part s i
 
 -- what each patch keeps
-abbrev pub all_kept : FluxSystem → List ℕ
-all_kept s = map (keep s) (range_with_len 0 (patches s))
+abbrev pub kept_parts : FluxSystem → List ℕ
+kept_parts s = map (keep s) (range_with_len 0 (patches s))
 
 -- the least that a patch keeps
 abbrev pub least_keep : FluxSystem → ℕ

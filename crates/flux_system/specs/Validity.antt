@@ -4,7 +4,7 @@ use Rattle.duties.specs.Duties.{Duty, unless, each}
 use Rattle.flux_system.specs.declared.TheConstants.{MOST_PATCHES}
 use Rattle.flux_system.specs.declared.faults.SystemFault.{SystemFault}
 use Rattle.flux_system.specs.declared.faults.SystemFault.TheVariants.{Size, Threshold, Reflectance, RowTotal}
-use Rattle.flux_system.specs.System.{FluxSystem, patches, row_total, all_kept}
+use Rattle.flux_system.specs.System.{FluxSystem, patches, row_total}
 
 -- 1 to MOST_PATCHES patches and a square of shares; a threshold of 1 to 10^16; no reflectance above 950; no row of shares that sums to 10^9
 pub record IsSystem (s : FluxSystem) : Type 0 where
@@ -15,10 +15,6 @@ pub record IsSystem (s : FluxSystem) : Type 0 where
   pub limited : s.threshold ≤ 10 ^ 16
   pub reflectances : (i : ℕ) → i < patches s → slice_index s.reflectance i ≤ 950
   pub rows : (i : ℕ) → i < patches s → row_total s i < 10 ^ 9
-
--- the numbers of a system whose threshold is not asked for
-abbrev pub numbers_of : List ℕ → List ℕ → FluxSystem
-numbers_of reflectance shares = record { threshold = 0; reflectance = reflectance; shares = shares }
 
 -- no reflectance is above 950
 abbrev pub reflectance_duty : FluxSystem → ℕ → Duty SystemFault
@@ -36,8 +32,3 @@ system_duties s =
     ∷ each (patches s) (reflectance_duty s)
     ∷ each (patches s) (row_duty s)
     ∷ []
-
--- the numbers of a valid system, beside what each patch keeps
-pub record IsHeld (s : FluxSystem) (kept : List ℕ) : Type 0 where
-  pub valid : IsSystem s
-  pub keeps : kept ≡ all_kept s

@@ -2,8 +2,9 @@
 ghost use Rattle.std.specs.Prelude.{◌≡◌, ℕ, ◌<◌, ◌≤◌, ◌*◌, ◌+◌, [], IfOk, length, slice_index, map, sum};
 ghost use Rattle.duties.specs.Duties.{first, each, Answers};
 ghost use Rattle.std.specs.List.{range_with_len};
-ghost use Rattle.flux_system.specs.System.{all_kept};
-ghost use Rattle.flux_system.specs.Validity.{numbers_of, system_duties, reflectance_duty, row_duty};
+ghost use Rattle.flux_system.specs.System.{kept_parts};
+ghost use Rattle.flux_system.specs.Validity.{system_duties, reflectance_duty, row_duty};
+ghost use Rattle.flux_system.specs.Shapes.{system_without_threshold};
 
 use crate::{MOST_PATCHES, SystemFault};
 use std::alloc::Global;
@@ -24,7 +25,7 @@ pub(crate) fn kept_parts(
     shares: &[u32],
     threshold: u64,
 ) -> Result<Vec<u64>, SystemFault>
-    ensures kept { IfOk result (λ kept. kept.items ≡ all_kept (record { threshold = threshold; reflectance = reflectance.now; shares = shares.now })) }
+    ensures kept { IfOk result (λ kept. kept.items ≡ kept_parts (record { threshold = threshold; reflectance = reflectance.now; shares = shares.now })) }
     ensures answer { Answers SystemFault.Memory (first (system_duties (record { threshold = threshold; reflectance = reflectance.now; shares = shares.now }))) result }
 {
     let n = reflectance.len();
@@ -43,7 +44,7 @@ pub(crate) fn kept_parts(
 // The refusal of the first reflectance that is too high.
 fn reflectance_fault(reflectance: &[u32]) -> Option<SystemFault>
     requires { length reflectance.now ≤ MOST_PATCHES }
-    ensures { result ≡ each (length reflectance.now) (reflectance_duty (numbers_of reflectance.now [])) }
+    ensures { result ≡ each (length reflectance.now) (reflectance_duty (system_without_threshold reflectance.now [])) }
 {
     for (patch, value) in reflectance.iter().enumerate() {
         if *value > MOST_REFLECTANCE {
@@ -60,8 +61,8 @@ fn kept_rows(alloc: Global, reflectance: &[u32], shares: &[u32]) -> Result<Vec<u
     requires few { length reflectance.now ≤ MOST_PATCHES }
     requires square { length shares.now ≡ length reflectance.now * length reflectance.now }
     requires limited { (i : ℕ) → i < length reflectance.now → slice_index reflectance.now i ≤ 950 }
-    ensures kept { IfOk result (λ kept. kept.items ≡ all_kept (numbers_of reflectance.now shares.now)) }
-    ensures answer { Answers SystemFault.Memory (each (length reflectance.now) (row_duty (numbers_of reflectance.now shares.now))) result }
+    ensures kept { IfOk result (λ kept. kept.items ≡ kept_parts (system_without_threshold reflectance.now shares.now)) }
+    ensures answer { Answers SystemFault.Memory (each (length reflectance.now) (row_duty (system_without_threshold reflectance.now shares.now))) result }
 {
     let n = reflectance.len();
     let mut kept = Vec::with_capacity(alloc, n)?;

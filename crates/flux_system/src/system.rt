@@ -2,7 +2,7 @@
 ghost use Rattle.std.specs.Prelude.{◌≡◌, ◌<◌, ◌≤◌, ◌*◌, ◌^◌, IfOk, OnOk, length, slice_index, sum};
 ghost use Rattle.duties.specs.Duties.{first, judged, Answers};
 ghost use Rattle.flux_system.specs.Sums.{least_below};
-ghost use Rattle.flux_system.specs.System.{patches, coefficient, row_of, keep, least_keep, bound_of_takes};
+ghost use Rattle.flux_system.specs.System.{patches, coefficient, share_row, keep, least_keep, bound_of_takes};
 ghost use Rattle.flux_system.specs.Validity.{IsSystem, system_duties};
 ghost use Rattle.flux_system.specs.Limits.{limit_duties};
 
@@ -28,13 +28,13 @@ pub struct System {
 
 impl Model for System {
     ghost use Rattle.flux_system.specs.System.{FluxSystem};
-    ghost use Rattle.flux_system.specs.Validity.{IsHeld};
+    ghost use Rattle.flux_system.specs.Shapes.{IsSystemWithKept};
 
     ghost Value = { FluxSystem };
 
     ghost view = { λ s. record { threshold = s.threshold; reflectance = s.reflectance.items; shares = s.shares.items } };
 
-    ghost invariant = { λ s. IsHeld (record { threshold = s.threshold; reflectance = s.reflectance.items; shares = s.shares.items }) s.kept.items };
+    ghost invariant = { λ s. IsSystemWithKept (record { threshold = s.threshold; reflectance = s.reflectance.items; shares = s.shares.items }) s.kept.items };
 }
 
 impl System {
@@ -103,7 +103,7 @@ impl System {
     /// The shares of patch `i`'s flux that fall on each patch, in parts of 10^9.
     pub fn row(&self, i: usize) -> &[u32]
         requires { i < patches self.now }
-        ensures { result.now ≡ row_of self.now i }
+        ensures { result.now ≡ share_row self.now i }
     {
         row_at(self.shares.as_slice(), self.reflectance.len(), i)
     }

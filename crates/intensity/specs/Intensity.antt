@@ -51,5 +51,5 @@ abbrev pub covers : List ℕ → ℕ → Bool
 covers angles angle = nat_le (slice_index angles 0) angle && nat_le angle (slice_index angles (length angles - 1))
 
 -- the intensity in the direction of c and gamma, 0 outside the stored gammas
-unfoldable pub interpolated : PhotometricWeb → ℕ → ℕ → ℕ
-interpolated w c gamma = if covers w.gammas gamma then in_cell w (between_planes w c) (between_gammas w gamma) else 0
+unfoldable pub interpolated_intensity : PhotometricWeb → ℕ → ℕ → ℕ
+interpolated_intensity w c gamma = if covers w.gammas gamma then in_cell w (between_planes w c) (between_gammas w gamma) else 0

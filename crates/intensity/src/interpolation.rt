@@ -1,18 +1,18 @@
 // Intensity between the stored directions of a web.
 ghost use Rattle.std.specs.Prelude.{◌≡◌, ◌*◌, ◌/◌, ◌<◌, ◌≤◌, ◌^◌, IsTrue, length};
 ghost use Rattle.photo_web.specs.Validity.{IsWeb};
-ghost use Rattle.intensity.specs.Intensity.{IsWithin, between_planes, between_gammas, weighted_sum, in_cell, covers, interpolated};
+ghost use Rattle.intensity.specs.Intensity.{IsWithin, between_planes, between_gammas, weighted_sum, in_cell, covers, interpolated_intensity};
 
 use crate::stretch::{Stretch, last_up_to, stretch_from};
 use photo_web::Web;
 
 /// The intensity of a web in the direction of C-angle `c` and of `gamma` (millidegrees), in microcandela: interpolated
 /// in the cell that the direction lies in, and 0 where `gamma` is outside the stored ones.
-#[tactic(auto, unfolding(crate::specs::Intensity::interpolated))]
+#[tactic(auto, unfolding(crate::specs::Intensity::interpolated_intensity))]
 pub fn intensity(web: &Web, c: u32, gamma: u32) -> u64
     requires c { c < 360000 }
     requires gamma { gamma ≤ 180000 }
-    ensures value { result ≡ interpolated web.now c gamma }
+    ensures value { result ≡ interpolated_intensity web.now c gamma }
     ensures limited { result ≤ 10 ^ 15 }
 {
     if !covers(web.gammas(), gamma) {
@@ -81,14 +81,14 @@ fn weighted_sum(web: &Web, plane: Stretch, gamma: Stretch) -> u128
     let plane_left = plane.width - plane.past;
     let gamma_left = gamma.width - gamma.past;
     let (next_plane, next_gamma) = (plane.place + 1, gamma.place + 1);
-    weighed(web.value(plane.place, gamma.place), plane_left * gamma_left)
-        + weighed(web.value(next_plane, gamma.place), plane.past * gamma_left)
-        + weighed(web.value(plane.place, next_gamma), plane_left * gamma.past)
-        + weighed(web.value(next_plane, next_gamma), plane.past * gamma.past)
+    weighted_value(web.value(plane.place, gamma.place), plane_left * gamma_left)
+        + weighted_value(web.value(next_plane, gamma.place), plane.past * gamma_left)
+        + weighted_value(web.value(plane.place, next_gamma), plane_left * gamma.past)
+        + weighted_value(web.value(next_plane, next_gamma), plane.past * gamma.past)
 }
 
 // A value by its weight.
-fn weighed(value: u64, weight: u64) -> u128
+fn weighted_value(value: u64, weight: u64) -> u128
     requires { value ≤ 10 ^ 15 }
     ensures product { result ≡ value * weight }
     ensures limited { result ≤ 10 ^ 15 * 2 ^ 64 }

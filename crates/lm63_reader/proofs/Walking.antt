@@ -3,18 +3,18 @@ use Rattle.std.proofs.Common.{◌≡◌, ℕ, List, ◌∷◌, Some, None, Bool,
 use Rattle.std.specs.Prelude.{slice_get, find}
 use Rattle.lux_lines.specs.Places.{Piece}
 use Rattle.lm63_reader.specs.declared.faults.LmFault.TheVariants.{Short}
-use Rattle.lm63_reader.specs.Fields.{number_at, numeric, numeric_token, token_number, no_token}
+use Rattle.lm63_reader.specs.Fields.{number_at, number_duty, token_number_duty, token_number, no_token}
 use Rattle.lm63_reader.specs.declared.faults.LmFault.TheVariants.{Trailing}
 
 -- past the last token
-pub numeric_none : (all : List Piece) (k : ℕ) → slice_get all k ≡ None → numeric all k ≡ Some (Short (length all))
-unfolding numeric
-numeric_none all k h = rw h refl
+pub number_duty_none : (all : List Piece) (k : ℕ) → slice_get all k ≡ None → number_duty all k ≡ Some (Short (length all))
+unfolding number_duty
+number_duty_none all k h = rw h refl
 
 -- at a token
-pub numeric_some : (all : List Piece) (k : ℕ) (token : Piece) → slice_get all k ≡ Some token → (numeric all k ≡ numeric_token token) × (number_at all k ≡ token_number token)
-unfolding numeric number_at
-numeric_some all k token h = (rw h refl, rw h refl)
+pub number_duty_some : (all : List Piece) (k : ℕ) (token : Piece) → slice_get all k ≡ Some token → (number_duty all k ≡ token_number_duty token) × (number_at all k ≡ token_number token)
+unfolding number_duty number_at
+number_duty_some all k token h = (rw h refl, rw h refl)
 
 pub no_token_none : (all : List Piece) (k : ℕ) → slice_get all k ≡ None → no_token all k ≡ None
 unfolding no_token

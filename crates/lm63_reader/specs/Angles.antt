@@ -12,12 +12,12 @@ use Rattle.lm63_reader.specs.declared.faults.LmFault.TheVariants.{Angles}
 use Rattle.lm63_reader.specs.Fields.{number_at, field}
 
 -- the angle at a place of a list that begins at another place, cut
-abbrev pub angle : List Piece → ℕ → ℕ → ℕ
-angle all start at = angle_of (number_at all (start + at))
+abbrev pub angle_at : List Piece → ℕ → ℕ → ℕ
+angle_at all start at = angle_of (number_at all (start + at))
 
 -- the least angle that may stand at a place: one above the angle before it
 abbrev pub least_angle : List Piece → ℕ → ℕ → ℕ
-least_angle all start at = if at == 0 then 0 else angle all start (at - 1) + 1
+least_angle all start at = if at == 0 then 0 else angle_at all start (at - 1) + 1
 
 -- the angle at a place is at most the most, and above the angle before it
 unfoldable pub angle_duty : ℕ → ℕ → List Piece → ℕ → ℕ → Duty LmFault
@@ -25,7 +25,7 @@ angle_duty list most all start at = field all (start + at) (λ x. unless (is_ang
 
 -- the angles of a list
 unfoldable pub angles : List Piece → ℕ → ℕ → List ℕ
-angles all start count = map (angle all start) (range_with_len 0 count)
+angles all start count = map (angle_at all start) (range_with_len 0 count)
 
 -- the symmetry whose span the horizontal angles have; a full turn is stored past half a turn
 unfoldable pub span_symmetry : List ℕ → Option SymKind

@@ -18,8 +18,8 @@ token_number token = or_zero (number_of token.text)
     or_zero (Err fault) = zero_number
 
 -- a token is a number; else the fault has its line
-unfoldable pub numeric_token : Piece → Duty LmFault
-numeric_token token = of_reading (number_of token.text)
+unfoldable pub token_number_duty : Piece → Duty LmFault
+token_number_duty token = of_reading (number_of token.text)
   where
     of_reading : Result Decimal NumFault → Duty LmFault
     of_reading (Ok number) = None
@@ -34,20 +34,20 @@ number_at all place = or_zero (slice_get all place)
     or_zero (Some token) = token_number token
 
 -- a token stands at a place and is a number; else the fault has the number of tokens, or the line
-unfoldable pub numeric : List Piece → ℕ → Duty LmFault
-numeric all place = of_token (slice_get all place)
+unfoldable pub number_duty : List Piece → ℕ → Duty LmFault
+number_duty all place = of_token (slice_get all place)
   where
     of_token : Option Piece → Duty LmFault
     of_token None = Some (Short (length all))
-    of_token (Some token) = numeric_token token
+    of_token (Some token) = token_number_duty token
 
 -- a token stands at a place, is a number, and that number passes its rule
 unfoldable pub field : List Piece → ℕ → (Decimal → Duty LmFault) → Duty LmFault
-field all place rule = first (numeric all place ∷ rule (number_at all place) ∷ [])
+field all place rule = first (number_duty all place ∷ rule (number_at all place) ∷ [])
 
 -- so many numbers from a place on, which may be any
 unfoldable pub any_numbers : List Piece → ℕ → ℕ → Duty LmFault
-any_numbers all place count = each count (λ i. numeric all (place + i))
+any_numbers all place count = each count (λ i. number_duty all (place + i))
 
 -- no token stands at a place; else the fault has its line
 unfoldable pub no_token : List Piece → ℕ → Duty LmFault

@@ -6,16 +6,16 @@ use Rattle.duties.specs.Duties.{Duty, unless}
 use Rattle.lux_lines.specs.Places.{Piece}
 use Rattle.lux_lines.specs.Lines.{lines, line_text}
 use Rattle.lux_lines.specs.Tokens.{tokens}
-use Rattle.lux_lines.specs.Ends.{is_space, trimmed, trimmed_end}
+use Rattle.lux_lines.specs.Ends.{is_space, without_spaces, without_suffix}
 use Rattle.lm63_reader.specs.declared.faults.LmFault.{LmFault}
 use Rattle.lm63_reader.specs.declared.faults.LmFault.TheVariants.{Header, Tilt, TiltFile}
 
 -- a header line of 2002, or of one of the older layouts with the same thirteen fields; blanks and tabs at its end are left out
 abbrev pub is_header : List ℕ → Bool
 is_header line =
-    bytes_eq (trimmed_end is_space line) (codes "IESNA:LM-63-2002")
-    || bytes_eq (trimmed_end is_space line) (codes "IESNA:LM-63-1995")
-    || bytes_eq (trimmed_end is_space line) (codes "IESNA91")
+    bytes_eq (without_suffix is_space line) (codes "IESNA:LM-63-2002")
+    || bytes_eq (without_suffix is_space line) (codes "IESNA:LM-63-1995")
+    || bytes_eq (without_suffix is_space line) (codes "IESNA91")
 
 -- a line begins with `TILT=`
 abbrev pub is_tilt : Piece → Bool
@@ -28,8 +28,8 @@ tilt_line text = find is_tilt (drop 1 (lines text))
 -- whether the tilt is included, by what follows `TILT=`: `NONE` or `INCLUDE`
 unfoldable pub inclusion : List ℕ → Option Bool
 inclusion line =
-    if bytes_eq (trimmed (drop 5 line)) (codes "NONE") then Some false
-    else (if bytes_eq (trimmed (drop 5 line)) (codes "INCLUDE") then Some true else None)
+    if bytes_eq (without_spaces (drop 5 line)) (codes "NONE") then Some false
+    else (if bytes_eq (without_spaces (drop 5 line)) (codes "INCLUDE") then Some true else None)
 
 -- whether the text's tilt is included
 unfoldable pub tilt_inclusion : List ℕ → Option Bool

@@ -2,7 +2,7 @@
 use Rattle.std.specs.Prelude.{ℕ, ◌+◌, ◌*◌, ◌/◌, ◌^◌, List, [], ◌∷◌}
 use Rattle.duties.specs.Duties.{Duty, unless, first}
 use Rattle.lux_lines.specs.Places.{Piece}
-use Rattle.lux_num.specs.Scaled.{cut, is_limited}
+use Rattle.lux_num.specs.Scaled.{cut_value, is_limited}
 use Rattle.lm63_reader.specs.declared.faults.LmFault.{LmFault}
 use Rattle.lm63_reader.specs.declared.faults.LmFault.TheVariants.{PhotometricType, Units, Count, Factor}
 use Rattle.photo_numbers.specs.Numbers.{count_of, is_whole_within}
@@ -62,9 +62,9 @@ abbrev pub horizontals : List Piece → ℕ → ℕ
 horizontals all place = count_of (number_at all (place + 4))
 
 -- three factors as one: each cut to nine decimals, and their product as well
-abbrev pub joined : ℕ → ℕ → ℕ → ℕ
-joined multiplier ballast future = multiplier * ballast * future / 10 ^ 18
+abbrev pub factor_product : ℕ → ℕ → ℕ → ℕ
+factor_product multiplier ballast future = multiplier * ballast * future / 10 ^ 18
 
 -- the factor of all values in billionths: of candela multiplier, ballast factor and future use (the last by this project's own rule)
 abbrev pub factor : List Piece → ℕ → ℕ
-factor all place = joined (cut (number_at all (place + 2)) 9) (cut (number_at all (place + 10)) 9) (cut (number_at all (place + 11)) 9)
+factor all place = factor_product (cut_value (number_at all (place + 2)) 9) (cut_value (number_at all (place + 10)) 9) (cut_value (number_at all (place + 11)) 9)

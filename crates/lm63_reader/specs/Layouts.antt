@@ -1,4 +1,4 @@
--- What the head of the code stands for.
+-- What the head of the code stands for. No contract of a public call speaks of it.
 use Rattle.std.specs.Prelude.{ℕ}
 use Rattle.lm63_reader.specs.declared.head.Head.{Head}
 use Rattle.lm63_reader.specs.Lm63.{Layout}

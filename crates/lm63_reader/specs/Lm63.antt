@@ -73,8 +73,8 @@ abbrev pub head_place : Bool → List Piece → ℕ
 head_place included all = if included then tilt_size all 0 else 0
 
 -- the tests of the numbers behind the TILT line
-unfoldable pub number_duties : Bool → List Piece → List (Duty LmFault)
-number_duties included all =
+unfoldable pub token_duties : Bool → List Piece → List (Duty LmFault)
+token_duties included all =
     (if included then first (tilt_duties all 0) else None)
     ∷ first (head_duties all (head_place included all))
     ∷ first (list_duties all (layout all (head_place included all)))
@@ -88,7 +88,7 @@ is_included text = unwrap_or (tilt_inclusion text) false
 unfoldable pub text_duties : List ℕ → List (Duty LmFault)
 text_duties text =
     first (front_duties text)
-    ∷ first (number_duties (is_included text) (tokens_behind text))
+    ∷ first (token_duties (is_included text) (tokens_behind text))
     ∷ []
 
 -- the photometry of a text, or its refusal

@@ -1,12 +1,12 @@
 // The numbers behind the TILT line, one after another.
 ghost use Rattle.std.specs.Prelude.{◌≡◌, ◌+◌, ◌*◌, ◌<◌, ◌≤◌, ◌^◌, IfOk, OnOk, length};
 ghost use Rattle.duties.specs.Duties.{Answers, unless};
-ghost use Rattle.lux_lines.specs.TokenWalks.{all_tokens};
+ghost use Rattle.lux_lines.specs.Walks.{all_tokens};
 ghost use Rattle.lux_lines.specs.TokenPieces.{token_piece};
-ghost use Rattle.lux_num.specs.Scaled.{cut, is_limited};
+ghost use Rattle.lux_num.specs.Scaled.{cut_value, is_limited};
 ghost use Rattle.photo_numbers.specs.Numbers.{count_of, is_whole_within};
 ghost use Rattle.lm63_reader.specs.declared.faults.LmFault.TheVariants.{Memory};
-ghost use Rattle.lm63_reader.specs.Fields.{number_at, numeric, numeric_token, token_number, field, any_numbers, no_token};
+ghost use Rattle.lm63_reader.specs.Fields.{number_at, number_duty, token_number_duty, token_number, field, any_numbers, no_token};
 
 use crate::LmFault;
 use lux_lines::{Token, Tokens};
@@ -15,7 +15,7 @@ use photo_numbers::whole_within;
 
 /// The next token as a number.
 pub(crate) fn read_number(source: &mut Tokens) -> Result<Decimal, LmFault>
-    ensures answer { Answers Memory (numeric (all_tokens source.old) source.old.read) result }
+    ensures answer { Answers Memory (number_duty (all_tokens source.old) source.old.read) result }
     ensures value { IfOk result (λ number. number ≡ number_at (all_tokens source.old) source.old.read) }
     ensures same { OnOk result (all_tokens source.new ≡ all_tokens source.old) }
     ensures next { OnOk result (source.new.read ≡ source.old.read + 1) }
@@ -29,10 +29,10 @@ pub(crate) fn read_number(source: &mut Tokens) -> Result<Decimal, LmFault>
 }
 
 // What a token is as a number.
-#[tactic(auto, unfolding(crate::specs::Fields::numeric_token, crate::specs::Fields::token_number))]
+#[tactic(auto, unfolding(crate::specs::Fields::token_number_duty, crate::specs::Fields::token_number))]
 fn number_of(token: &Token) -> Result<Decimal, LmFault>
     requires { length token.now.text.now < 2 ^ 31 }
-    ensures answer { Answers Memory (numeric_token (token_piece token.now)) result }
+    ensures answer { Answers Memory (token_number_duty (token_piece token.now)) result }
     ensures value { IfOk result (λ number. number ≡ token_number (token_piece token.now)) }
 {
     match Decimal::read(token.text) {
@@ -81,7 +81,7 @@ pub(crate) fn read_whole(
 #[tactic(auto, using(duties::proofs::Orders::steps), unfolding(crate::specs::Fields::field))]
 pub(crate) fn read_factor(source: &mut Tokens, most: u64, fault: LmFault) -> Result<u128, LmFault>
     ensures answer { Answers Memory (field (all_tokens source.old) source.old.read (λ x. unless (is_limited most x) fault)) result }
-    ensures value { IfOk result (λ factor. factor ≡ cut (number_at (all_tokens source.old) source.old.read) 9) }
+    ensures value { IfOk result (λ factor. factor ≡ cut_value (number_at (all_tokens source.old) source.old.read) 9) }
     ensures bound { IfOk result (λ factor. factor ≤ most * 1000000000) }
     ensures same { OnOk result (all_tokens source.new ≡ all_tokens source.old) }
     ensures next { OnOk result (source.new.read ≡ source.old.read + 1) }

@@ -1,12 +1,12 @@
 // The numbers before the angles.
 ghost use Rattle.std.specs.Prelude.{◌≡◌, ◌+◌, ◌<◌, ◌≤◌, ◌^◌, if◌then◌else◌, None, IfOk, OnOk};
 ghost use Rattle.duties.specs.Duties.{Answers, first};
-ghost use Rattle.lux_lines.specs.TokenWalks.{all_tokens};
-ghost use Rattle.lux_num.specs.Scaled.{cut};
+ghost use Rattle.lux_lines.specs.Walks.{all_tokens};
+ghost use Rattle.lux_num.specs.Scaled.{cut_value};
 ghost use Rattle.photo_numbers.specs.Numbers.{count_of};
 ghost use Rattle.lm63_reader.specs.declared.faults.LmFault.TheVariants.{Memory};
 ghost use Rattle.lm63_reader.specs.Fields.{number_at};
-ghost use Rattle.lm63_reader.specs.Heads.{tilt_duties, tilt_size, lamp_duties, count_duties, factor_duties, head_duties, joined, factor, verticals, horizontals};
+ghost use Rattle.lm63_reader.specs.Heads.{tilt_duties, tilt_size, lamp_duties, count_duties, factor_duties, head_duties, factor_product, factor, verticals, horizontals};
 
 use crate::LmFault;
 use crate::fields::{read_factor, read_whole, skip_numbers};
@@ -60,7 +60,7 @@ pub(crate) fn read_head(source: &mut Tokens) -> Result<Head, LmFault>
     let (verticals, horizontals) = read_counts(source)?;
     let (ballast, future) = read_factors(source)?;
     Ok(Head {
-        factor: joined(multiplier, ballast, future),
+        factor: factor_product(multiplier, ballast, future),
         verticals,
         horizontals,
     })
@@ -70,7 +70,7 @@ pub(crate) fn read_head(source: &mut Tokens) -> Result<Head, LmFault>
 #[tactic(auto, using(duties::proofs::Orders::steps), unfolding(crate::specs::Heads::lamp_duties))]
 fn read_lamps(source: &mut Tokens) -> Result<u128, LmFault>
     ensures answer { Answers Memory (first (lamp_duties (all_tokens source.old) source.old.read)) result }
-    ensures value { IfOk result (λ multiplier. multiplier ≡ cut (number_at (all_tokens source.old) (source.old.read + 2)) 9) }
+    ensures value { IfOk result (λ multiplier. multiplier ≡ cut_value (number_at (all_tokens source.old) (source.old.read + 2)) 9) }
     ensures bound { IfOk result (λ multiplier. multiplier ≤ 10 ^ 14) }
     ensures same { OnOk result (all_tokens source.new ≡ all_tokens source.old) }
     ensures next { OnOk result (source.new.read ≡ source.old.read + 3) }
@@ -101,8 +101,8 @@ fn read_counts(source: &mut Tokens) -> Result<(u32, u32), LmFault>
 #[tactic(auto, using(duties::proofs::Orders::steps), unfolding(crate::specs::Heads::factor_duties))]
 fn read_factors(source: &mut Tokens) -> Result<(u128, u128), LmFault>
     ensures answer { Answers Memory (first (factor_duties (all_tokens source.old) source.old.read)) result }
-    ensures ballast { IfOk result (λ r. r.0 ≡ cut (number_at (all_tokens source.old) (source.old.read + 3)) 9) }
-    ensures future { IfOk result (λ r. r.1 ≡ cut (number_at (all_tokens source.old) (source.old.read + 4)) 9) }
+    ensures ballast { IfOk result (λ r. r.0 ≡ cut_value (number_at (all_tokens source.old) (source.old.read + 3)) 9) }
+    ensures future { IfOk result (λ r. r.1 ≡ cut_value (number_at (all_tokens source.old) (source.old.read + 4)) 9) }
     ensures bounds { IfOk result (λ r. (r.0 ≤ 10 ^ 12) × (r.1 ≤ 10 ^ 12)) }
     ensures same { OnOk result (all_tokens source.new ≡ all_tokens source.old) }
     ensures next { OnOk result (source.new.read ≡ source.old.read + 6) }
@@ -115,11 +115,11 @@ fn read_factors(source: &mut Tokens) -> Result<(u128, u128), LmFault>
 }
 
 // Three factors in billionths as one, cut.
-fn joined(multiplier: u128, ballast: u128, future: u128) -> u128
+fn factor_product(multiplier: u128, ballast: u128, future: u128) -> u128
     requires multiplier { multiplier ≤ 10 ^ 14 }
     requires ballast { ballast ≤ 10 ^ 12 }
     requires future { future ≤ 10 ^ 12 }
-    ensures value { result ≡ joined multiplier ballast future }
+    ensures value { result ≡ factor_product multiplier ballast future }
     ensures bound { result ≤ 10 ^ 20 }
 {
     multiplier * ballast * future / 1_000_000_000_000_000_000

@@ -3,22 +3,27 @@ ghost use Rattle.std.specs.Prelude.{◌≡◌, ◌==◌, ◌+◌, ◌*◌, ◌<�
 ghost use Rattle.std.specs.List.Sorted.{IsStrictlyIncreasing};
 ghost use Rattle.std.specs.List.{list_any};
 ghost use Rattle.duties.specs.Duties.{Answers, each, unless, first};
-ghost use Rattle.lux_lines.specs.TokenWalks.{all_tokens};
-ghost use Rattle.lux_num.specs.Scaled.{is_negative};
+ghost use Rattle.lux_lines.specs.Walks.{all_tokens};
+ghost use Rattle.photo_numbers.specs.Intensities.{intensity_of, intensity_duty};
 ghost use Rattle.photo_numbers.specs.Numbers.{angle_of, is_angle};
 ghost use Rattle.symmetry.specs.Images.{has_span};
 ghost use Rattle.lm63_reader.specs.declared.faults.LmFault.TheVariants.{Memory, NegativeIntensity, TooBright};
 ghost use Rattle.lm63_reader.specs.Fields.{number_at, field};
-ghost use Rattle.lm63_reader.specs.Angles.{angle, angles, angle_duty, span_symmetry};
-ghost use Rattle.lm63_reader.specs.Intensities.{value_duty, intensities, intensity_of, is_intensity, microcandela};
+ghost use Rattle.lm63_reader.specs.Angles.{angles, angle_duty, span_symmetry};
+ghost use Rattle.lm63_reader.specs.Intensities.{value_duty, intensities};
 
 use crate::LmFault;
 use crate::fields::read_number;
 use lux_lines::Tokens;
-use lux_num::Decimal;
-use photo_numbers::angle_within;
-use photo_web::{FULL_TURN, MOST_INTENSITY, SymKind};
+use photo_numbers::{angle_within, intensity_within};
+use photo_web::{FULL_TURN, SymKind};
 use std::alloc::Global;
+
+// The most that a value may be, in candela.
+const MOST_VALUE: u64 = 1_000_000_000;
+
+// So many billionths are 1.
+const BILLION: u64 = 1_000_000_000;
 
 /// A list of so many angles of at most `most`, each above the one before it.
 pub(crate) fn read_angles(
@@ -111,11 +116,11 @@ pub(crate) fn read_values(
 }
 
 // The next token as an intensity.
-#[tactic(auto, using(duties::proofs::Orders::steps), unfolding(crate::specs::Fields::field))]
+#[tactic(auto, using(duties::proofs::Orders::steps), unfolding(crate::specs::Fields::field, photo_numbers::specs::Intensities::intensity_duty))]
 fn read_value(source: &mut Tokens, factor: u128, at: u32) -> Result<u64, LmFault>
     requires { factor ≤ 10 ^ 20 }
-    ensures answer { Answers Memory (field (all_tokens source.old) source.old.read (λ x. first (unless (not (is_negative x)) (NegativeIntensity at) ∷ unless (is_intensity factor x) (TooBright at) ∷ []))) result }
-    ensures value { IfOk result (λ value. value ≡ intensity_of factor (number_at (all_tokens source.old) source.old.read)) }
+    ensures answer { Answers Memory (field (all_tokens source.old) source.old.read (intensity_duty (10 ^ 9) (10 ^ 9) factor (NegativeIntensity at) (TooBright at))) result }
+    ensures value { IfOk result (λ value. value ≡ intensity_of (10 ^ 9) factor (number_at (all_tokens source.old) source.old.read)) }
     ensures limited { IfOk result (λ value. value ≤ 10 ^ 15) }
     ensures same { OnOk result (all_tokens source.new ≡ all_tokens source.old) }
     ensures next { OnOk result (source.new.read ≡ source.old.read + 1) }
@@ -124,25 +129,8 @@ fn read_value(source: &mut Tokens, factor: u128, at: u32) -> Result<u64, LmFault
     if number.is_negative() {
         return Err(LmFault::NegativeIntensity { at });
     }
-    match intensity(&number, factor) {
+    match intensity_within(&number, MOST_VALUE, BILLION, factor) {
         Some(value) => Ok(value),
         None => Err(LmFault::TooBright { at }),
     }
-}
-
-// The intensity of a value that isn't negative, where it is at most 10^9 and its intensity at most 10^15 microcandela.
-#[tactic(auto, using(std::proofs::lemmas::Bool::Decides::nat_tests))]
-fn intensity(number: &Decimal, factor: u128) -> Option<u64>
-    requires factor { factor ≤ 10 ^ 20 }
-    requires sign { is_negative number.now ≡ false }
-    ensures exactly { is_some result ≡ is_intensity factor number.now }
-    ensures value { IfSome result (λ value. value ≡ intensity_of factor number.now) }
-    ensures limited { IfSome result (λ value. value ≤ 10 ^ 15) }
-{
-    let value = number.cut_within(9, 1_000_000_000)?;
-    let intensity = value * factor / 1_000_000_000_000;
-    if intensity > u128::from(MOST_INTENSITY) {
-        return None;
-    }
-    Some(intensity as u64)
 }

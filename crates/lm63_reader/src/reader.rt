@@ -1,10 +1,10 @@
 // The reader of a text.
 ghost use Rattle.std.specs.Prelude.{◌≡◌, ◌≢◌, ◌<◌, ◌^◌, Ok, Err, IfOk, IfErr, length};
 ghost use Rattle.duties.specs.Duties.{Answers, first};
-ghost use Rattle.lux_lines.specs.TokenWalks.{all_tokens};
+ghost use Rattle.lux_lines.specs.Walks.{all_tokens};
 ghost use Rattle.lm63_reader.specs.declared.faults.LmFault.TheVariants.{Memory};
 ghost use Rattle.lm63_reader.specs.Layouts.{head_layout};
-ghost use Rattle.lm63_reader.specs.Lm63.{list_duties, layout, head_place, number_duties, photometry, photometry_of, lm_of};
+ghost use Rattle.lm63_reader.specs.Lm63.{list_duties, layout, head_place, token_duties, photometry, photometry_of, lm_of};
 
 use crate::LmFault;
 use crate::fields::read_end;
@@ -39,7 +39,7 @@ fn read_body(alloc: Global, text: &[u8]) -> Result<Photometry, LmFault>
 // The photometry of the numbers behind the TILT line.
 fn read_numbers(alloc: Global, mut source: Tokens, included: bool) -> Result<Photometry, LmFault>
     requires { source.read ≡ 0 }
-    ensures answer { Answers Memory (first (number_duties included (all_tokens source.entry))) result }
+    ensures answer { Answers Memory (first (token_duties included (all_tokens source.entry))) result }
     ensures value { IfOk result (λ p. p ≡ photometry (all_tokens source.entry) (layout (all_tokens source.entry) (head_place included (all_tokens source.entry)))) }
 {
     skip_tilt(&mut source, included)?;

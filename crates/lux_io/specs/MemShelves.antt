@@ -23,8 +23,8 @@ abbrev pub file_of : List (List ℕ × List ℕ) → List ℕ → Option (List �
 file_of files name = lookup (λ kept. bytes_eq kept name) files
 
 -- the files that the code keeps, by name and bytes
-abbrev pub held : List (List ℕ × Vec ℕ Global) → List (List ℕ × List ℕ)
-held files = map (λ file. (file.0, file.1.items)) files
+abbrev pub contents_of : List (List ℕ × Vec ℕ Global) → List (List ℕ × List ℕ)
+contents_of files = map (λ file. (file.0, file.1.items)) files
 
 -- it tells its files
 abbrev pub state_of : MemShelfState → ShelfState
@@ -44,16 +44,16 @@ abbrev pub fault_of : MemShelfState → List ℕ → ℕ → Option ShelfFault
 fault_of shelf name limit = if fails_next shelf then Some Failed else fault_at limit (file_of shelf.files name)
 
 -- the shelf with this read counted
-abbrev pub counted : MemShelfState → MemShelfState
-counted shelf = record shelf { reads = next_count shelf.reads }
+abbrev pub after_read : MemShelfState → MemShelfState
+after_read shelf = record shelf { reads = next_count shelf.reads }
 
 -- the read has that fault, or it has none and gives the bytes or finds no memory; its own count alone rises, by one
 abbrev pub ReadsExactly : {T : Type 0} → MemShelfState → List ℕ → ℕ → MemShelfState → Result T ShelfFault → Type 0
-ReadsExactly old name limit new (Ok _) = (fault_of old name limit ≡ None) × (new ≡ counted old)
+ReadsExactly old name limit new (Ok _) = (fault_of old name limit ≡ None) × (new ≡ after_read old)
 ReadsExactly old name limit new (Err Failed) =
     (fault_of old name limit ≡ Some Failed)
-    × (new ≡ record (counted old) { faults = next_count old.faults; blame = Some (record { count = Faults; name = name; limit = limit }) })
+    × (new ≡ record (after_read old) { faults = next_count old.faults; blame = Some (record { count = Faults; name = name; limit = limit }) })
 ReadsExactly old name limit new (Err TooLong) =
     (fault_of old name limit ≡ Some TooLong)
-    × (new ≡ record (counted old) { overlong = next_count old.overlong; blame = Some (record { count = Overlong; name = name; limit = limit }) })
-ReadsExactly old name limit new (Err Memory) = (fault_of old name limit ≡ None) × (new ≡ counted old)
+    × (new ≡ record (after_read old) { overlong = next_count old.overlong; blame = Some (record { count = Overlong; name = name; limit = limit }) })
+ReadsExactly old name limit new (Err Memory) = (fault_of old name limit ≡ None) × (new ≡ after_read old)

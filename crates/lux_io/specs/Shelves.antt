@@ -36,12 +36,12 @@ abbrev pub IsOverlong : ShelfState → List ℕ → ℕ → Type 0
 IsOverlong shelf name limit = IfSome shelf.files (λ files. IsSomeAnd (files name) (λ bytes. limit < length bytes))
 
 -- this read raised the count of failed reads and is blamed, and nothing else changed
-pub record Failing (before after : ShelfState) (name : List ℕ) (limit : ℕ) : Type 0 where
+pub record Fails (before after : ShelfState) (name : List ℕ) (limit : ℕ) : Type 0 where
   pub rose : Rose before.faults after.faults
   pub same : after ≡ record before { faults = after.faults; blame = Some (record { count = Faults; name = name; limit = limit }) }
 
 -- this read raised the count of files that are too long and is blamed, and nothing else changed; the file is too long
-pub record FindingOverlong (before after : ShelfState) (name : List ℕ) (limit : ℕ) : Type 0 where
+pub record FindsOverlong (before after : ShelfState) (name : List ℕ) (limit : ℕ) : Type 0 where
   pub rose : Rose before.overlong after.overlong
   pub same : after ≡ record before { overlong = after.overlong; blame = Some (record { count = Overlong; name = name; limit = limit }) }
   pub overlong : IsOverlong before name limit
@@ -49,6 +49,6 @@ pub record FindingOverlong (before after : ShelfState) (name : List ℕ) (limit 
 -- what a read may do, by its answer: only Ok changes the bytes of the caller, and only a failed read the shelf
 abbrev pub Reads : {T : Type 0} → ShelfState → ShelfState → List ℕ → ℕ → List ℕ → List ℕ → Result T ShelfFault → Type 0
 Reads before after name limit old new (Ok _) = (after ≡ before) × IsFile before name limit new
-Reads before after name limit old new (Err Failed) = Failing before after name limit × (new ≡ old)
-Reads before after name limit old new (Err TooLong) = FindingOverlong before after name limit × (new ≡ old)
+Reads before after name limit old new (Err Failed) = Fails before after name limit × (new ≡ old)
+Reads before after name limit old new (Err TooLong) = FindsOverlong before after name limit × (new ≡ old)
 Reads before after name limit old new (Err Memory) = (after ≡ before) × (new ≡ old)

@@ -1,6 +1,6 @@
 // A shelf in memory.
 ghost use Rattle.std.specs.Prelude.{◌≡◌, IfOk, IfNone, IfSome};
-ghost use Rattle.lux_io.specs.MemShelves.{file_of, held};
+ghost use Rattle.lux_io.specs.MemShelves.{file_of, contents_of};
 
 use crate::{Blame, Count, Name, Shelf, ShelfFault};
 use std::alloc::{AllocError, Global};
@@ -20,17 +20,17 @@ pub struct MemShelf {
 }
 
 impl Model for MemShelf {
-    ghost use Rattle.lux_io.specs.MemShelves.{MemShelfState, held};
+    ghost use Rattle.lux_io.specs.MemShelves.{MemShelfState, contents_of};
 
     ghost Value = { MemShelfState };
 
-    ghost view = { λ s. record { files = held s.files.items; failing = s.failing.items; reads = s.reads; faults = s.faults; overlong = s.overlong; blame = s.blame } };
+    ghost view = { λ s. record { files = contents_of s.files.items; failing = s.failing.items; reads = s.reads; faults = s.faults; overlong = s.overlong; blame = s.blame } };
 }
 
 // The first file of this name.
 fn find<'a>(files: &'a [(Name, Vec<u8>)], name: &Name) -> Option<&'a Vec<u8>>
-    ensures none { IfNone result (file_of (held files.now) name.now ≡ None) }
-    ensures some { IfSome result (λ bytes. file_of (held files.now) name.now ≡ Some bytes.now.items) }
+    ensures none { IfNone result (file_of (contents_of files.now) name.now ≡ None) }
+    ensures some { IfSome result (λ bytes. file_of (contents_of files.now) name.now ≡ Some bytes.now.items) }
 {
     for file in files {
         if file.0.as_str() == name.as_str() {
@@ -42,7 +42,7 @@ fn find<'a>(files: &'a [(Name, Vec<u8>)], name: &Name) -> Option<&'a Vec<u8>>
 
 // The same files once more.
 fn copies(alloc: Global, files: &[(Name, Vec<u8>)]) -> Result<Vec<(Name, Vec<u8>)>, AllocError>
-    ensures { IfOk result (λ copies. held copies.items ≡ held files.now) }
+    ensures { IfOk result (λ copies. contents_of copies.items ≡ contents_of files.now) }
 {
     let mut copies = Vec::new(alloc);
     for file in files {
@@ -69,7 +69,7 @@ impl MemShelf {
         files: &[(Name, Vec<u8>)],
         failing: &[u64],
     ) -> Result<MemShelf, AllocError>
-        ensures { IfOk result (λ shelf. shelf ≡ record { files = held files.now; failing = failing.now; reads = 0; faults = 0; overlong = 0; blame = None }) }
+        ensures { IfOk result (λ shelf. shelf ≡ record { files = contents_of files.now; failing = failing.now; reads = 0; faults = 0; overlong = 0; blame = None }) }
     {
         Ok(MemShelf {
             alloc,

@@ -1,9 +1,9 @@
 -- Steps along the digits of a word.
-use Rattle.std.proofs.Common.{add-one, lit<, ◌≡◌, ℕ, ◌+◌, ◌-◌, ◌*◌, ◌<◌, ◌≤◌, ◌^◌, ◌&&◌, List, length, get_or, take, ap, sym, ◌∙◌, arith}
+use Rattle.std.proofs.Common.{lit<, ◌≡◌, ℕ, ◌+◌, ◌-◌, ◌*◌, ◌<◌, ◌≤◌, ◌^◌, ◌&&◌, List, length, get_or, take, ap, sym, ◌∙◌, arith}
 use Rattle.std.specs.List.{list_all}
 use Rattle.std.specs.Char.{is_ascii_digit}
 use Rattle.std.proofs.lemmas.List.{take_all}
-use Rattle.std.proofs.Math.Nat.{pow-le-pow_right, pow-suc}
+use Rattle.std.proofs.Math.Nat.{pow-le-pow_right}
 use Rattle.std.proofs.lemmas.List.Folds.{list_all_more}
 use Rattle.std.proofs.lemmas.List.Sums.{fold_more}
 use Rattle.lux_lines.specs.Numerals.{numeral_value}
@@ -13,12 +13,6 @@ pub room_for_digit : (k value : ℕ) → value < 10 ^ k → k < 19 → 10 * valu
 room_for_digit k value small few =
     let most : k ≤ 18 = omega arith in
     let power : 10 ^ k ≤ 10 ^ 18 = pow-le-pow_right (lit< tt) most in
-    omega arith
-
--- one more digit keeps the bound
-pub one_more_digit : (k value digit : ℕ) → value < 10 ^ k → digit ≤ 9 → 10 * value + digit < 10 ^ (k + 1)
-one_more_digit k value digit small few =
-    let power : 10 ^ (k + 1) ≡ 10 ^ k * 10 = ap (λ (e : ℕ). 10 ^ e) (add-one k) ∙ pow-suc 10 k in
     omega arith
 
 -- the last of 20 digits

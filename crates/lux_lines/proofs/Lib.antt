@@ -2,4 +2,3 @@ pub mod Steps
 pub mod Parts
 pub mod Digits
 pub mod TokenSteps
-pub mod Left

@@ -8,7 +8,7 @@ use Rattle.std.proofs.lemmas.Bool.Decides.{nat_tests}
 use Rattle.std.proofs.lemmas.List.Sums.{fails_before_first, passes_at_first, count_by_more_no, count_by_more_yes, prefix_len-le-length}
 use Rattle.lux_lines.specs.Places.{Piece, is_newline, line_number, places_from}
 use Rattle.lux_lines.specs.Lines.{starts_line, line_at, lines_from, lines, line_text}
-use Rattle.lux_lines.specs.Walks.{IsAtLine}
+use Rattle.lux_lines.specs.Cursors.{IsAtLine}
 
 pub places_end : (test : ℕ → Bool) (n p : ℕ) → n ≤ p → places_from test n p ≡ []
 places_end test n p h = let e : n - p ≡ 0 = omega arith in rw e refl

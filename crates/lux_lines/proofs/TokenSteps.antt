@@ -8,7 +8,7 @@ use Rattle.std.proofs.lemmas.Bool.{true≢false}
 use Rattle.std.proofs.lemmas.List.Sums.{passes_at_first, prefix_len-le-length}
 use Rattle.lux_lines.specs.Places.{is_newline, places_from}
 use Rattle.lux_lines.specs.Tokens.{is_separator, token_line, starts_token, token_at, tokens_from, tokens}
-use Rattle.lux_lines.specs.TokenWalks.{IsBetweenTokens, IsAtToken}
+use Rattle.lux_lines.specs.Cursors.{IsBetweenTokens, IsAtToken}
 use Rattle.lux_lines.proofs.Steps.{places_end, places_yes, places_no, places_skip, stretch_fails, count_stretch, first_within, left_some, left_none}
 
 newline_separates : (byte : ℕ) → is_separator byte ≡ false → is_newline byte ≡ false

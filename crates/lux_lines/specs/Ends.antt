@@ -11,12 +11,12 @@ abbrev pub is_ending : ℕ → Bool
 is_ending byte = byte == 32 || byte == 9 || byte == 13 || byte == 10
 
 -- without the bytes at the end that pass a test
-abbrev pub trimmed_end : (ℕ → Bool) → List ℕ → List ℕ
-trimmed_end test text = take (length text - suffix_len test text) text
+abbrev pub without_suffix : (ℕ → Bool) → List ℕ → List ℕ
+without_suffix test text = take (length text - suffix_len test text) text
 
 -- without blanks and tabs at both ends
-abbrev pub trimmed : List ℕ → List ℕ
-trimmed text = trimmed_end is_space (drop (prefix_len is_space text) text)
+abbrev pub without_spaces : List ℕ → List ℕ
+without_spaces text = without_suffix is_space (drop (prefix_len is_space text) text)
 
 -- without one byte 0x1A, which older systems wrote at the end of a file, where it is last
 abbrev pub without_mark : List ℕ → List ℕ
@@ -24,4 +24,4 @@ without_mark text = if slice_index text (length text - 1) == 26 then take (lengt
 
 -- what is read of a file: without blanks, tabs, CR and LF at its end, then without the mark, then without these once more
 unfoldable pub body : List ℕ → List ℕ
-body text = trimmed_end is_ending (without_mark (trimmed_end is_ending text))
+body text = without_suffix is_ending (without_mark (without_suffix is_ending text))

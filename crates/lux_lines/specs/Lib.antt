@@ -1,10 +1,10 @@
 pub mod Places
 pub mod Lines
+pub mod Tokens
 pub mod Walks
 pub mod Pieces
+pub mod TokenPieces
 pub mod Words
 pub mod Numerals
-pub mod Tokens
-pub mod TokenWalks
-pub mod TokenPieces
 pub mod Ends
+pub mod Cursors

@@ -1,6 +1,6 @@
 // What doesn't count at the ends of a text or of a line.
 ghost use Rattle.std.specs.Prelude.{◌≡◌, ◌≤◌, length};
-ghost use Rattle.lux_lines.specs.Ends.{body, trimmed, trimmed_end, without_mark, is_space, is_ending};
+ghost use Rattle.lux_lines.specs.Ends.{body, without_spaces, without_suffix, without_mark, is_space, is_ending};
 
 /// What is read of a file: without blanks, tabs, CR and LF at its end, then without one byte 0x1A that is last, then
 /// without blanks, tabs, CR and LF once more.
@@ -14,7 +14,7 @@ pub fn body(text: &[u8]) -> &[u8]
 
 /// Without blanks and tabs at both ends.
 pub fn trim(text: &[u8]) -> &[u8]
-    ensures { result.now ≡ trimmed text.now }
+    ensures { result.now ≡ without_spaces text.now }
 {
     let mut at = 0;
     while at < text.len() && is_space(text[at]) {
@@ -25,7 +25,7 @@ pub fn trim(text: &[u8]) -> &[u8]
 
 /// Without blanks and tabs at the end.
 pub fn trim_end(text: &[u8]) -> &[u8]
-    ensures { result.now ≡ trimmed_end is_space text.now }
+    ensures { result.now ≡ without_suffix is_space text.now }
 {
     let mut len = text.len();
     while len > 0 && is_space(text[len - 1]) {
@@ -35,7 +35,7 @@ pub fn trim_end(text: &[u8]) -> &[u8]
 }
 
 fn without_endings(text: &[u8]) -> &[u8]
-    ensures value { result.now ≡ trimmed_end is_ending text.now }
+    ensures value { result.now ≡ without_suffix is_ending text.now }
     ensures len { length result.now ≤ length text.now }
 {
     let mut len = text.len();

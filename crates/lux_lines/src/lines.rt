@@ -23,7 +23,8 @@ pub struct Lines<'a> {
 }
 
 impl<'a> Model for Lines<'a> {
-    ghost use Rattle.lux_lines.specs.Walks.{LinesRead, IsAtLine};
+    ghost use Rattle.lux_lines.specs.Walks.{LinesRead};
+    ghost use Rattle.lux_lines.specs.Cursors.{IsAtLine};
 
     ghost Value = { LinesRead };
 
@@ -66,7 +67,7 @@ impl<'a> Lines<'a> {
         let line = Line {
             number: self.read + 1,
             start: self.at,
-            text: trimmed(content),
+            text: without_return(content),
         };
         if content.len() < self.text.len() - self.at {
             self.at += content.len() + 1;
@@ -98,7 +99,7 @@ fn first_newline(rest: &[u8]) -> Option<usize>
 }
 
 // A line without a CR at its end.
-fn trimmed(line: &[u8]) -> &[u8]
+fn without_return(line: &[u8]) -> &[u8]
     ensures value { result.now ≡ without_return line.now }
     ensures front { result.now ≡ take (length result.now) line.now }
 {

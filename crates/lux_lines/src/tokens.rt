@@ -2,7 +2,7 @@
 ghost use Rattle.std.specs.Prelude.{◌≡◌, ℕ, ◌+◌, ◌-◌, ◌<◌, ◌≤◌, ◌^◌, false, take, drop, length, position, slice_index, slice_get, option_map, is_some, nat_lt, IfSome, IfNone, OnSome};
 ghost use Rattle.std.specs.List.{before_first, position_or_len};
 ghost use Rattle.lux_lines.specs.Tokens.{tokens_from, is_separator};
-ghost use Rattle.lux_lines.specs.TokenWalks.{IsBetweenTokens};
+ghost use Rattle.lux_lines.specs.Cursors.{IsBetweenTokens};
 
 use std::marker::Model;
 
@@ -25,7 +25,8 @@ pub struct Tokens<'a> {
 }
 
 impl<'a> Model for Tokens<'a> {
-    ghost use Rattle.lux_lines.specs.TokenWalks.{TokensRead, IsAtToken};
+    ghost use Rattle.lux_lines.specs.Walks.{TokensRead};
+    ghost use Rattle.lux_lines.specs.Cursors.{IsAtToken};
 
     ghost Value = { TokensRead };
 
@@ -35,7 +36,7 @@ impl<'a> Model for Tokens<'a> {
 }
 
 impl<'a> Tokens<'a> {
-    ghost use Rattle.lux_lines.specs.TokenWalks.{all_tokens};
+    ghost use Rattle.lux_lines.specs.Walks.{all_tokens};
     ghost use Rattle.lux_lines.specs.TokenPieces.{token_piece};
 
     /// Before the first token of a text that begins on the line `first_line`.

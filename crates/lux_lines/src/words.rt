@@ -12,7 +12,7 @@ pub struct Words<'a> {
 
 impl<'a> Model for Words<'a> {
     ghost use Rattle.std.specs.Prelude.{List, ℕ};
-    ghost use Rattle.lux_lines.specs.Walks.{words_left};
+    ghost use Rattle.lux_lines.specs.Cursors.{words_left};
 
     ghost Value = { List (List ℕ) };
 

@@ -1,21 +1,15 @@
 -- Steps along the digits of a number.
-use Rattle.std.proofs.Common.{◌≡◌, ℕ, zero, suc, ◌+◌, ◌-◌, ◌*◌, ◌<◌, ◌≤◌, ◌^◌, Bool, true, false, cond, List, [], ◌∷◌, length, get_or, take, drop, Ok, Err, refl, ap, ◌∙◌, arith, add-one, lit<, w32, ℤ, pos, neg_ℤ, ◌-ℤ◌, to_z, of_z, negsuc, ◌≤ℤ◌}
+use Rattle.std.proofs.Common.{◌≡◌, ℕ, zero, suc, ◌+◌, ◌-◌, ◌*◌, ◌<◌, ◌≤◌, ◌^◌, Bool, true, false, cond, List, [], ◌∷◌, length, get_or, take, drop, Ok, Err, refl, ap, ◌∙◌, arith, lit<, w32, ℤ, pos, neg_ℤ, ◌-ℤ◌, to_z, of_z, negsuc, ◌≤ℤ◌}
 use Rattle.std.proofs.lemmas.Bool.Decides.{nat_tests}
 use Rattle.std.proofs.lemmas.Int.{ints}
 use Rattle.duties.proofs.Orders.{this_met, this_fails, none_left, unless_holds, unless_fails, judged_ok, judged_err}
 use Rattle.std.specs.List.{list_all, prefix_len}
 use Rattle.std.specs.Char.{is_ascii_digit}
-use Rattle.std.proofs.Math.Nat.{pow-suc, pow-le-pow_right}
+use Rattle.std.proofs.Math.Nat.{pow-le-pow_right}
 use Rattle.lux_num.specs.declared.decimal.NumFault.TheVariants.{BadByte, Empty, TooManyDigits, Exponent}
-use Rattle.lux_num.specs.Digits.{exponent_value, digits_value, unsigned, has_minus, tail, digits, may_be_exponent, is_exponent}
+use Rattle.lux_num.specs.Digits.{exponent_value, digits_value, behind_sign, has_minus, tail, digits, may_be_exponent, is_exponent}
 use Rattle.lux_num.specs.Decimal.{number_duties, number_value, number_of}
 use Rattle.lux_num.proofs.Outcomes.{leb_holds, leb_fails, both}
-
--- one more digit keeps the bound
-pub one_more_digit : (k value digit : ℕ) → value < 10 ^ k → digit ≤ 9 → 10 * value + digit < 10 ^ (k + 1)
-one_more_digit k value digit small few =
-    let power : 10 ^ (k + 1) ≡ 10 ^ k * 10 = ap (λ (e : ℕ). 10 ^ e) (add-one k) ∙ pow-suc 10 k in
-    omega arith
 
 -- no exponent is the power 0
 pub no_exponent : (text : List ℕ) → length text ≡ 0 → exponent_value text ≡ pos 0
@@ -53,13 +47,13 @@ room_for_digit value start k len small first few inside =
     omega arith
 
 -- an exponent with a minus, and one without
-pub exponent_below : (text : List ℕ) → has_minus (drop 1 text) ≡ true → exponent_value text ≡ neg_ℤ (pos (digits_value (unsigned (drop 1 text))))
+pub exponent_below : (text : List ℕ) → has_minus (drop 1 text) ≡ true → exponent_value text ≡ neg_ℤ (pos (digits_value (behind_sign (drop 1 text))))
 unfolding exponent_value
-exponent_below text h = ap (λ (b : Bool). cond b (neg_ℤ (pos (digits_value (unsigned (drop 1 text))))) (pos (digits_value (unsigned (drop 1 text))))) h
+exponent_below text h = ap (λ (b : Bool). cond b (neg_ℤ (pos (digits_value (behind_sign (drop 1 text))))) (pos (digits_value (behind_sign (drop 1 text))))) h
 
-pub exponent_above : (text : List ℕ) → has_minus (drop 1 text) ≡ false → exponent_value text ≡ pos (digits_value (unsigned (drop 1 text)))
+pub exponent_above : (text : List ℕ) → has_minus (drop 1 text) ≡ false → exponent_value text ≡ pos (digits_value (behind_sign (drop 1 text)))
 unfolding exponent_value
-exponent_above text h = ap (λ (b : Bool). cond b (neg_ℤ (pos (digits_value (unsigned (drop 1 text))))) (pos (digits_value (unsigned (drop 1 text))))) h
+exponent_above text h = ap (λ (b : Bool). cond b (neg_ℤ (pos (digits_value (behind_sign (drop 1 text))))) (pos (digits_value (behind_sign (drop 1 text))))) h
 
 -- signs in 32 bits
 pub as_signed : (x v : ℕ) → x ≡ v → x ≤ 99 → to_z w32 x ≡ pos v
@@ -113,5 +107,5 @@ digits_fit value whole fraction small few =
     omega arith
 
 -- exponent and point together, in 32 bits
-pub joined_exponent : (power : ℤ) (places : ℕ) → places ≤ 30 → negsuc 98 ≤ℤ power → power ≤ℤ pos 99 → to_z w32 (of_z w32 (to_z w32 (of_z w32 power) -ℤ to_z w32 places)) ≡ power -ℤ pos places
-joined_exponent power places few least most = omega (arith, ints)
+pub exponent_sum : (power : ℤ) (places : ℕ) → places ≤ 30 → negsuc 98 ≤ℤ power → power ≤ℤ pos 99 → to_z w32 (of_z w32 (to_z w32 (of_z w32 power) -ℤ to_z w32 places)) ≡ power -ℤ pos places
+exponent_sum power places few least most = omega (arith, ints)

@@ -1,11 +1,10 @@
 -- Newton's steps towards a square root, and quotients rounded up.
-use Rattle.std.proofs.Common.{◌≡◌, ◌≢◌, ℕ, zero, suc, Bool, ◌+◌, ◌-◌, ◌*◌, ◌/◌, ◌%◌, ◌<◌, ◌≤◌, ◌^◌, inl, inr, Some, true, false, eqb, leb, ltb, refl, sym, ap, ◌∙◌, arith, lit<}
+use Rattle.std.proofs.Common.{◌≡◌, ◌≢◌, ℕ, zero, suc, ◌+◌, ◌-◌, ◌*◌, ◌/◌, ◌%◌, ◌<◌, ◌≤◌, ◌^◌, inl, inr, Some, true, false, eqb, leb, ltb, refl, sym, arith, lit<}
 use Rattle.std.proofs.Math.Nat.{lt-mul-div-succ, mul-le-mul_left, mul-le-mul_right, div-mul-le_self, div-eq_of_lt-le, pow-le-pow_right, mod-eq_of_lt}
 use Rattle.std.proofs.lemmas.Nat.{pow-add, pow_pos}
 use Rattle.std.proofs.lemmas.Bool.{cases_lt, ne_eqb, le-leb, lt-leb, lt-ltb}
-use mathlib.Core.Logic.{dite}
-use native.Mathlib.Decide.{ℕ_discrete}
-use Rattle.lux_num.specs.Quotients.{quotient_up, greatest_up_to, root}
+use Rattle.laws.proofs.Greatest.{greatest-is}
+use Rattle.lux_num.specs.Quotients.{quotient_up, root}
 
 square_mono : (a b : ℕ) → a ≤ b → a * a ≤ b * b
 square_mono a b h =
@@ -115,18 +114,10 @@ quotient_below n d some e =
     let times : n / d * 1 ≤ n / d * d = mul-le-mul_left (n / d) some in
     omega arith
 
--- the greatest number that passes a test is the one that passes it where none above it does
-greatest_is : (most g : ℕ) (test : ℕ → Bool) → g ≤ most → (0 < g → test g ≡ true) → ((k : ℕ) → g < k → test k ≡ false) → greatest_up_to most test ≡ g
-greatest_is zero g test low here above = omega arith
-greatest_is (suc most) g test low here above =
-    dite (ℕ_discrete g (suc most))
-    (λ e. let passes : test (suc most) ≡ true = ap test (sym e) ∙ here (omega arith) in rw passes (sym e))
-    (λ ne. let fails = above (suc most) (omega arith) in rw fails (greatest_is most g test (omega arith) here above))
-
 -- the root is the number whose square is at most that number, where the next square is above it
 pub root_is : (x q : ℕ) → q * q ≤ x → x < (q + 1) * (q + 1) → q ≡ root x
 unfolding root
-root_is x q square next = sym (greatest_is x q (λ candidate. leb (candidate * candidate) x) (below x q square) (λ _. le-leb _ _ square) (λ k h. lt-leb _ _ (past k h)))
+root_is x q square next = sym (greatest-is x (λ candidate. leb (candidate * candidate) x) q (below x q square) (le-leb _ _ square) (λ k h _. lt-leb _ _ (past k h)))
   where
     below : (x q : ℕ) → q * q ≤ x → q ≤ x
     below x zero h = omega arith

@@ -4,7 +4,7 @@ use Rattle.std.specs.Prelude.{unsigned_abs, nat_le, ◌==◌, if◌then◌else�
 use Rattle.std.proofs.lemmas.Int.{ints}
 use Rattle.std.proofs.Math.Nat.{pow-le-pow_right, mul-le-mul_left, mul-le-mul_right, div-le_of_le-mul, lt-mul-div-succ}
 use Rattle.lux_num.specs.declared.decimal.Decimal.{Decimal}
-use Rattle.lux_num.specs.Scaled.{scaled, is_scaled_within, is_scaled_whole, cut, fixed, is_at_most}
+use Rattle.lux_num.specs.Scaled.{scaled_value, is_scaled_within, is_scaled_whole, cut_value, fixed_value, is_at_most}
 use Rattle.std.proofs.Math.Nat.{mod-eq_of_lt}
 use Rattle.std.proofs.lemmas.Nat.{pow-add}
 use Rattle.std.proofs.lemmas.Bool.{ne_eqb, cases_lt}
@@ -13,13 +13,13 @@ use Rattle.lux_num.proofs.TenPowers.{power_positive}
 
 -- cut, tested and whole
 pub record IsLowered (number : ℕ) (power : ℤ) : Type 0 where
-  pub cut : scaled number power ≡ number / 10 ^ unsigned_abs power
+  pub cut : scaled_value number power ≡ number / 10 ^ unsigned_abs power
   pub within : (most : ℕ) → is_scaled_within most number power ≡ nat_le number (most * 10 ^ unsigned_abs power)
   pub exact : is_scaled_whole number power ≡ (number % 10 ^ unsigned_abs power == 0)
   pub small : is_scaled_within (10 ^ 38) number power ≡ true
 
 pub lowered_is : (number : ℕ) (power : ℤ) → number < 2 ^ 128 → power <ℤ pos 0 → IsLowered number power
-unfolding scaled is_scaled_within is_scaled_whole
+unfolding scaled_value is_scaled_within is_scaled_whole
 lowered_is number (pos n) fits h = absurd (omega (arith, ints))
 lowered_is number (negsuc n) fits h =
     let e : n + 1 ≡ suc n = add-one n in
@@ -42,23 +42,23 @@ below_times n zero d some h = let e : zero * d ≡ 0 = omega arith in sym (rw e 
 below_times n (suc most) d some h = let e : eqb (suc most) 0 ≡ false = ne_eqb (suc most) 0 (λ z. omega arith) in rw e (sym (leb_holds n (suc most * d) (omega arith)))
 
 -- a number times a power of ten is at most a limit, cut and uncut
-pub record IsWithin (limit number : ℕ) (power : ℤ) : Type 0 where
+pub record IsScaledBelow (limit number : ℕ) (power : ℤ) : Type 0 where
   pub within : is_scaled_within limit number power ≡ true
-  pub cut : scaled number power ≤ limit
+  pub cut : scaled_value number power ≤ limit
 
-within_raised : (limit number n : ℕ) → number * 10 ^ n ≤ limit → IsWithin limit number (pos n)
-unfolding is_scaled_within scaled
+within_raised : (limit number n : ℕ) → number * 10 ^ n ≤ limit → IsScaledBelow limit number (pos n)
+unfolding is_scaled_within scaled_value
 within_raised limit number n h = record { within = leb_holds (number * 10 ^ n) limit h; cut = h }
 
-within_lowered : (limit number n : ℕ) → number ≤ limit * 10 ^ (n + 1) → IsWithin limit number (negsuc n)
-unfolding is_scaled_within scaled
+within_lowered : (limit number n : ℕ) → number ≤ limit * 10 ^ (n + 1) → IsScaledBelow limit number (negsuc n)
+unfolding is_scaled_within scaled_value
 within_lowered limit number n h = record {
   within = leb_holds number (limit * 10 ^ (n + 1)) h;
   cut = div-le_of_le-mul (10 ^ (n + 1)) (let e : number ≤ 10 ^ (n + 1) * limit = omega arith in e);
 }
 
 -- where a number is at most `most`, it is times a power of ten at most `most` times that power
-pub scaled_limit : (most number places : ℕ) (power : ℤ) → is_scaled_within most number power ≡ true → IsWithin (most * 10 ^ places) number (power +ℤ pos places)
+pub scaled_limit : (most number places : ℕ) (power : ℤ) → is_scaled_within most number power ≡ true → IsScaledBelow (most * 10 ^ places) number (power +ℤ pos places)
 unfolding is_scaled_within
 scaled_limit most number places (pos n) h =
     let low = leb_means (number * 10 ^ n) most h in
@@ -68,29 +68,29 @@ scaled_limit most number places (pos n) h =
 scaled_limit most number places (negsuc n) h =
     let low = leb_means number (most * 10 ^ (n + 1)) h in
     elim (cases_lt n places) [
-      | inl short ↦ raised most number places n (places - (n + 1)) low (omega arith)
-      | inr long ↦ lowered most number places n (n - places) low (omega arith)
+      | inl short ↦ product_with_power most number places n (places - (n + 1)) low (omega arith)
+      | inr long ↦ quotient_by_power most number places n (n - places) low (omega arith)
     ]
   where
-    raised : (most number places n rest : ℕ) → number ≤ most * 10 ^ (n + 1) → places ≡ (n + 1) + rest → IsWithin (most * 10 ^ places) number (negsuc n +ℤ pos places)
-    raised most number places n rest low e =
+    product_with_power : (most number places n rest : ℕ) → number ≤ most * 10 ^ (n + 1) → places ≡ (n + 1) + rest → IsScaledBelow (most * 10 ^ places) number (negsuc n +ℤ pos places)
+    product_with_power most number places n rest low e =
         let power : negsuc n +ℤ pos places ≡ pos rest = omega (arith, ints) in
         let times : number * 10 ^ rest ≤ most * 10 ^ (n + 1) * 10 ^ rest = mul-le-mul_right (10 ^ rest) low in
         let split : 10 ^ places ≡ 10 ^ (n + 1) * 10 ^ rest = ap (λ (k : ℕ). 10 ^ k) e ∙ pow-add 10 (n + 1) rest in
         let whole : most * 10 ^ places ≡ most * 10 ^ (n + 1) * 10 ^ rest = ap (λ (k : ℕ). most * k) split ∙ sym (mul_assoc most (10 ^ (n + 1)) (10 ^ rest)) in
-        subst (λ (p : ℤ). IsWithin (most * 10 ^ places) number p) (sym power) (within_raised (most * 10 ^ places) number rest (omega arith))
+        subst (λ (p : ℤ). IsScaledBelow (most * 10 ^ places) number p) (sym power) (within_raised (most * 10 ^ places) number rest (omega arith))
 
-    lowered : (most number places n rest : ℕ) → number ≤ most * 10 ^ (n + 1) → n ≡ places + rest → IsWithin (most * 10 ^ places) number (negsuc n +ℤ pos places)
-    lowered most number places n rest low e =
+    quotient_by_power : (most number places n rest : ℕ) → number ≤ most * 10 ^ (n + 1) → n ≡ places + rest → IsScaledBelow (most * 10 ^ places) number (negsuc n +ℤ pos places)
+    quotient_by_power most number places n rest low e =
         let power : negsuc n +ℤ pos places ≡ negsuc rest = omega (arith, ints) in
         let same : n + 1 ≡ places + (rest + 1) = omega arith in
         let split : 10 ^ (n + 1) ≡ 10 ^ places * 10 ^ (rest + 1) = ap (λ (k : ℕ). 10 ^ k) same ∙ pow-add 10 places (rest + 1) in
         let whole : most * 10 ^ (n + 1) ≡ most * 10 ^ places * 10 ^ (rest + 1) = ap (λ (k : ℕ). most * k) split ∙ sym (mul_assoc most (10 ^ places) (10 ^ (rest + 1))) in
-        subst (λ (p : ℤ). IsWithin (most * 10 ^ places) number p) (sym power) (within_lowered (most * 10 ^ places) number rest (omega arith))
+        subst (λ (p : ℤ). IsScaledBelow (most * 10 ^ places) number p) (sym power) (within_lowered (most * 10 ^ places) number rest (omega arith))
 
 -- a number that exceeds a limit uncut reaches it cut
-pub past_limit : (limit number : ℕ) (power : ℤ) → is_scaled_within limit number power ≡ false → limit ≤ scaled number power
-unfolding is_scaled_within scaled
+pub past_limit : (limit number : ℕ) (power : ℤ) → is_scaled_within limit number power ≡ false → limit ≤ scaled_value number power
+unfolding is_scaled_within scaled_value
 past_limit limit number (pos n) h = let past = leb_denies (number * 10 ^ n) limit h in omega arith
 past_limit limit number (negsuc n) h =
     let past = leb_denies number (limit * 10 ^ (n + 1)) h in
@@ -105,17 +105,17 @@ past_limit limit number (negsuc n) h =
         ]
 
 -- what a fixed number is, and where there is none
-pub fixed_some : (number : Decimal) (places : ℕ) (r : Option ℕ) → r ≡ fixed number places → IfSome r (λ value. value ≡ cut number places)
+pub fixed_some : (number : Decimal) (places : ℕ) (r : Option ℕ) → r ≡ fixed_value number places → IfSome r (λ value. value ≡ cut_value number places)
 fixed_some number places r h = rw h (by_test (is_scaled_within (10 ^ 38) number.mantissa (number.exponent +ℤ pos places)))
   where
-    by_test : (b : Bool) → IfSome (if b then Some (cut number places) else None) (λ value. value ≡ cut number places)
+    by_test : (b : Bool) → IfSome (if b then Some (cut_value number places) else None) (λ value. value ≡ cut_value number places)
     by_test true = refl
     by_test false = tt
 
-pub fixed_none : (number : Decimal) (places : ℕ) (r : Option ℕ) → r ≡ fixed number places → IfNone r (10 ^ 38 ≤ cut number places)
+pub fixed_none : (number : Decimal) (places : ℕ) (r : Option ℕ) → r ≡ fixed_value number places → IfNone r (10 ^ 38 ≤ cut_value number places)
 fixed_none number places r h = rw h (by_test (is_scaled_within (10 ^ 38) number.mantissa (number.exponent +ℤ pos places)) refl)
   where
-    by_test : (b : Bool) → is_scaled_within (10 ^ 38) number.mantissa (number.exponent +ℤ pos places) ≡ b → IfNone (if b then Some (cut number places) else None) (10 ^ 38 ≤ cut number places)
+    by_test : (b : Bool) → is_scaled_within (10 ^ 38) number.mantissa (number.exponent +ℤ pos places) ≡ b → IfNone (if b then Some (cut_value number places) else None) (10 ^ 38 ≤ cut_value number places)
     by_test true e = tt
     by_test false e = past_limit (10 ^ 38) number.mantissa (number.exponent +ℤ pos places) e
 
@@ -128,7 +128,7 @@ within_more limit more number (negsuc n) le h =
     leb_holds number (more * 10 ^ (n + 1)) (omega arith)
 
 -- a number of at most 64 bits is fixed to nine places
-pub fixed_limited : (most : ℕ) (number : Decimal) (places : ℕ) → most < 2 ^ 64 → places ≤ 9 → is_at_most most number ≡ true → (fixed number places ≡ Some (cut number places)) × (cut number places ≤ most * 10 ^ places)
+pub fixed_limited : (most : ℕ) (number : Decimal) (places : ℕ) → most < 2 ^ 64 → places ≤ 9 → is_at_most most number ≡ true → (fixed_value number places ≡ Some (cut_value number places)) × (cut_value number places ≤ most * 10 ^ places)
 fixed_limited most number places small few h =
     let limit = scaled_limit most number.mantissa places number.exponent h in
     let power : 10 ^ places ≤ 10 ^ 9 = pow-le-pow_right {n = 10} (lit< tt) {i = places} {j = 9} few in

@@ -8,8 +8,8 @@ abbrev pub digits_value : List ℕ → ℕ
 digits_value digits = fold (λ value digit. 10 * value + (digit - 48)) 0 digits
 
 -- without a `+` or `-` in front
-abbrev pub unsigned : List ℕ → List ℕ
-unsigned text = if (slice_index text 0 == 43) || (slice_index text 0 == 45) then drop 1 text else text
+abbrev pub behind_sign : List ℕ → List ℕ
+behind_sign text = if (slice_index text 0 == 43) || (slice_index text 0 == 45) then drop 1 text else text
 
 -- a `-` stands in front
 abbrev pub has_minus : List ℕ → Bool
@@ -29,15 +29,15 @@ has_point text = slice_index text 0 == 46
 
 -- the digits before the point
 unfoldable pub whole_digits : List ℕ → List ℕ
-whole_digits text = front_digits (unsigned text)
+whole_digits text = front_digits (behind_sign text)
 
 -- the digits behind the point
 unfoldable pub fraction_digits : List ℕ → List ℕ
-fraction_digits text = if has_point (behind_digits (unsigned text)) then front_digits (drop 1 (behind_digits (unsigned text))) else []
+fraction_digits text = if has_point (behind_digits (behind_sign text)) then front_digits (drop 1 (behind_digits (behind_sign text))) else []
 
 -- what stands behind sign, digits and point
 unfoldable pub tail : List ℕ → List ℕ
-tail text = if has_point (behind_digits (unsigned text)) then behind_digits (drop 1 (behind_digits (unsigned text))) else behind_digits (unsigned text)
+tail text = if has_point (behind_digits (behind_sign text)) then behind_digits (drop 1 (behind_digits (behind_sign text))) else behind_digits (behind_sign text)
 
 -- all digits
 abbrev pub digits : List ℕ → List ℕ
@@ -51,9 +51,9 @@ may_be_exponent text = (length text == 0) || (slice_index text 0 == 69) || (slic
 abbrev pub is_exponent : List ℕ → Bool
 is_exponent text =
     (length text == 0)
-    || (list_all is_ascii_digit (unsigned (drop 1 text)) && nat_le 1 (length (unsigned (drop 1 text))) && nat_le (length (unsigned (drop 1 text))) 2)
+    || (list_all is_ascii_digit (behind_sign (drop 1 text)) && nat_le 1 (length (behind_sign (drop 1 text))) && nat_le (length (behind_sign (drop 1 text))) 2)
 
 -- what an exponent says, nothing being 0
 unfoldable pub exponent_value : List ℕ → ℤ
 exponent_value text =
-    if has_minus (drop 1 text) then neg_ℤ (pos (digits_value (unsigned (drop 1 text)))) else pos (digits_value (unsigned (drop 1 text)))
+    if has_minus (drop 1 text) then neg_ℤ (pos (digits_value (behind_sign (drop 1 text)))) else pos (digits_value (behind_sign (drop 1 text)))

@@ -1,6 +1,6 @@
 -- Quotients of a product, where the numbers have 128 bits, and square roots.
 use Rattle.std.specs.Prelude.{ℕ, ◌+◌, ◌-◌, ◌*◌, ◌/◌, ◌^◌, ◌==◌, ◌&&◌, not, nat_lt, nat_le, Bool, if◌then◌else◌, Option, Some, None}
-use Rattle.std.proofs.Common.{zero, suc}
+use Rattle.laws.specs.Greatest.{greatest_up_to}
 
 -- a times b has 128 bits and the divisor isn't 0
 abbrev pub is_divisible : ℕ → ℕ → ℕ → Bool
@@ -13,11 +13,6 @@ quotient_down a b divisor = if is_divisible a b divisor then Some (a * b / divis
 -- a times b, divided and rounded up
 abbrev pub quotient_up : ℕ → ℕ → ℕ → Option ℕ
 quotient_up a b divisor = if is_divisible a b divisor && nat_lt ((a * b + (divisor - 1)) / divisor) (2 ^ 128) then Some ((a * b + (divisor - 1)) / divisor) else None
-
--- the greatest number up to a most that passes a test, or 0
-abbrev pub greatest_up_to : ℕ → (ℕ → Bool) → ℕ
-greatest_up_to zero test = 0
-greatest_up_to (suc most) test = if test (suc most) then suc most else greatest_up_to most test
 
 -- the square root of a number, cut: the greatest number whose square is at most that number
 unfoldable pub root : ℕ → ℕ

@@ -3,9 +3,9 @@ use Rattle.std.specs.Prelude.{ℕ, ◌+◌, ◌*◌, ◌/◌, ◌%◌, ◌^◌, 
 use Rattle.lux_num.specs.declared.decimal.Decimal.{Decimal}
 
 -- the greatest whole number that doesn't exceed a whole number times a power of ten
-unfoldable pub scaled : ℕ → ℤ → ℕ
-scaled mantissa (pos n) = mantissa * 10 ^ n
-scaled mantissa (negsuc n) = mantissa / 10 ^ (n + 1)
+unfoldable pub scaled_value : ℕ → ℤ → ℕ
+scaled_value mantissa (pos n) = mantissa * 10 ^ n
+scaled_value mantissa (negsuc n) = mantissa / 10 ^ (n + 1)
 
 -- a whole number times a power of ten is exactly a whole number
 unfoldable pub is_scaled_whole : ℕ → ℤ → Bool
@@ -18,8 +18,8 @@ is_scaled_within most mantissa (pos n) = nat_le (mantissa * 10 ^ n) most
 is_scaled_within most mantissa (negsuc n) = nat_le mantissa (most * 10 ^ (n + 1))
 
 -- the greatest whole number that doesn't exceed the magnitude times 10^places
-abbrev pub cut : Decimal → ℕ → ℕ
-cut number places = scaled number.mantissa (number.exponent +ℤ pos places)
+abbrev pub cut_value : Decimal → ℕ → ℕ
+cut_value number places = scaled_value number.mantissa (number.exponent +ℤ pos places)
 
 -- the magnitude itself, uncut, is at most a whole number
 abbrev pub is_at_most : ℕ → Decimal → Bool
@@ -34,11 +34,11 @@ abbrev pub is_limited : ℕ → Decimal → Bool
 is_limited most number = not (is_negative number) && is_at_most most number
 
 -- the magnitude times 10^places, cut, unless it exceeds 10^38 before it is cut
-abbrev pub fixed : Decimal → ℕ → Option ℕ
-fixed number places =
-    if is_scaled_within (10 ^ 38) number.mantissa (number.exponent +ℤ pos places) then Some (cut number places) else None
+abbrev pub fixed_value : Decimal → ℕ → Option ℕ
+fixed_value number places =
+    if is_scaled_within (10 ^ 38) number.mantissa (number.exponent +ℤ pos places) then Some (cut_value number places) else None
 
 -- the magnitude, where it is a whole number of at most 10^38
-abbrev pub whole : Decimal → Option ℕ
-whole number =
-    if is_scaled_whole number.mantissa number.exponent && is_at_most (10 ^ 38) number then Some (scaled number.mantissa number.exponent) else None
+abbrev pub whole_value : Decimal → Option ℕ
+whole_value number =
+    if is_scaled_whole number.mantissa number.exponent && is_at_most (10 ^ 38) number then Some (scaled_value number.mantissa number.exponent) else None

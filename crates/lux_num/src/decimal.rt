@@ -4,8 +4,8 @@ ghost use Rattle.std.specs.List.{list_all};
 ghost use Rattle.std.specs.Char.{is_ascii_digit};
 ghost use Rattle.lux_num.specs.Digits.{whole_digits, fraction_digits, tail, may_be_exponent};
 
-use crate::digits::{exponent_of, has_minus, has_point, split_digits, unsigned, with_digits};
-use crate::scaled::{is_within, scaled, whole};
+use crate::digits::{behind_sign, exponent_of, has_minus, has_point, split_digits, with_digits};
+use crate::scaled::{is_within, scaled_value, whole_value};
 use thiserror::Error;
 
 /// Why a text is no number. The variants stand in the order of the tests.
@@ -36,7 +36,7 @@ pub struct Decimal {
 
 impl Decimal {
     ghost use Rattle.lux_num.specs.Decimal.{number_of};
-    ghost use Rattle.lux_num.specs.Scaled.{cut, fixed, whole, is_negative, is_at_most, is_limited};
+    ghost use Rattle.lux_num.specs.Scaled.{cut_value, fixed_value, whole_value, is_negative, is_at_most, is_limited};
 
     /// The number that a text is.
     pub fn read(text: &[u8]) -> Result<Decimal, NumFault>
@@ -76,18 +76,18 @@ impl Decimal {
     /// The magnitude times ten to the power `places`, cut toward zero. `None` exactly where it exceeds 10^38 uncut.
     pub fn to_fixed(&self, places: u8) -> Option<u128>
         requires { places ≤ 9 }
-        ensures value { result ≡ fixed self.now places }
-        ensures cut { IfSome result (λ value. value ≡ cut self.now places) }
-        ensures past { IfNone result (10 ^ 38 ≤ cut self.now places) }
+        ensures value { result ≡ fixed_value self.now places }
+        ensures cut { IfSome result (λ value. value ≡ cut_value self.now places) }
+        ensures past { IfNone result (10 ^ 38 ≤ cut_value self.now places) }
     {
-        scaled(self.mantissa, i64::from(self.exponent) + i64::from(places))
+        scaled_value(self.mantissa, i64::from(self.exponent) + i64::from(places))
     }
 
     /// The number times ten to the power `places`, cut. `None` exactly where it is below zero or above `most`, uncut.
     pub fn cut_within(&self, places: u8, most: u64) -> Option<u128>
         requires { places ≤ 9 }
         ensures exactly { is_some result ≡ is_limited most self.now }
-        ensures value { IfSome result (λ value. value ≡ cut self.now places) }
+        ensures value { IfSome result (λ value. value ≡ cut_value self.now places) }
         ensures bound { IfSome result (λ value. value ≤ most * 10 ^ places) }
     {
         if self.is_negative() || !self.is_at_most(most) {
@@ -97,10 +97,10 @@ impl Decimal {
     }
 
     /// The magnitude, where it is a whole number of at most 10^38.
-    pub fn whole(&self) -> Option<u128>
-        ensures { result ≡ whole self.now }
+    pub fn to_whole(&self) -> Option<u128>
+        ensures { result ≡ whole_value self.now }
     {
-        whole(self.mantissa, i64::from(self.exponent))
+        whole_value(self.mantissa, i64::from(self.exponent))
     }
 
     /// Whether the magnitude is at most `most`, uncut.
@@ -127,7 +127,7 @@ fn parts_of(text: &[u8]) -> Parts<'_>
     ensures digits { (list_all is_ascii_digit result.whole.now ≡ true) × (list_all is_ascii_digit result.fraction.now ≡ true) }
     ensures len { length result.whole.now + length result.fraction.now + length result.tail.now ≤ length text.now }
 {
-    let (whole, behind) = split_digits(unsigned(text));
+    let (whole, behind) = split_digits(behind_sign(text));
     if has_point(behind) {
         let (fraction, tail) = split_digits(&behind[1..]);
         Parts {

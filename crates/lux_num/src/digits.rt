@@ -2,7 +2,7 @@
 ghost use Rattle.std.specs.Prelude.{◌≡◌, ℕ, ◌+◌, ◌-◌, ◌*◌, ◌^◌, ◌<◌, ◌≤◌, ◌&&◌, nat_le, true, fold, length, is_some, IfSome, pos, negsuc, ◌≤ℤ◌};
 ghost use Rattle.std.specs.List.{list_all, prefix_len};
 ghost use Rattle.std.specs.Char.{is_ascii_digit};
-ghost use Rattle.lux_num.specs.Digits.{unsigned, has_minus, has_point, front_digits, behind_digits, is_exponent, exponent_value, digits_value};
+ghost use Rattle.lux_num.specs.Digits.{behind_sign, has_minus, has_point, front_digits, behind_digits, is_exponent, exponent_value, digits_value};
 
 /// Whether a minus stands in front.
 pub fn has_minus(text: &[u8]) -> bool
@@ -12,8 +12,8 @@ pub fn has_minus(text: &[u8]) -> bool
 }
 
 /// The text without a sign in front.
-pub fn unsigned(text: &[u8]) -> &[u8]
-    ensures value { result.now ≡ unsigned text.now }
+pub fn behind_sign(text: &[u8]) -> &[u8]
+    ensures value { result.now ≡ behind_sign text.now }
     ensures len { length result.now ≤ length text.now }
 {
     if !text.is_empty() && (text[0] == b'+' || text[0] == b'-') {
@@ -79,7 +79,7 @@ pub fn exponent_of(text: &[u8]) -> Option<i32>
         return Some(0);
     }
     let signed = &text[1..];
-    let power = short_value(unsigned(signed))? as i32;
+    let power = short_value(behind_sign(signed))? as i32;
     if has_minus(signed) {
         Some(-power)
     } else {

@@ -1,30 +1,30 @@
 // A whole number times a power of ten.
 ghost use Rattle.std.specs.Prelude.{◌≡◌, ◌*◌, ◌/◌, ◌^◌, ◌==◌, ◌%◌, ◌&&◌, nat_le, if◌then◌else◌, Some, None};
-ghost use Rattle.lux_num.specs.Scaled.{scaled, is_scaled_within, is_scaled_whole};
+ghost use Rattle.lux_num.specs.Scaled.{scaled_value, is_scaled_within, is_scaled_whole};
 
 use crate::powers::power_of_ten;
 
 /// The number times ten to a power, cut. `None` exactly where it exceeds 10^38 uncut.
-#[tactic(auto, unfolding(crate::specs::Scaled::scaled, crate::specs::Scaled::is_scaled_within))]
-pub fn scaled(number: u128, power: i64) -> Option<u128>
-    ensures { result ≡ (if is_scaled_within (10 ^ 38) number power then Some (scaled number power) else None) }
+#[tactic(auto, unfolding(crate::specs::Scaled::scaled_value, crate::specs::Scaled::is_scaled_within))]
+pub fn scaled_value(number: u128, power: i64) -> Option<u128>
+    ensures { result ≡ (if is_scaled_within (10 ^ 38) number power then Some (scaled_value number power) else None) }
 {
     if power < 0 {
-        Some(lowered(number, power.unsigned_abs()))
+        Some(quotient_by_power(number, power.unsigned_abs()))
     } else {
-        raised(number, power as u64)
+        product_with_power(number, power as u64)
     }
 }
 
 /// The number times ten to a power, where that is whole and at most 10^38.
-#[tactic(auto, unfolding(crate::specs::Scaled::scaled, crate::specs::Scaled::is_scaled_within, crate::specs::Scaled::is_scaled_whole))]
-pub fn whole(number: u128, power: i64) -> Option<u128>
-    ensures { result ≡ (if is_scaled_whole number power && is_scaled_within (10 ^ 38) number power then Some (scaled number power) else None) }
+#[tactic(auto, unfolding(crate::specs::Scaled::scaled_value, crate::specs::Scaled::is_scaled_within, crate::specs::Scaled::is_scaled_whole))]
+pub fn whole_value(number: u128, power: i64) -> Option<u128>
+    ensures { result ≡ (if is_scaled_whole number power && is_scaled_within (10 ^ 38) number power then Some (scaled_value number power) else None) }
 {
     if power < 0 {
-        exactly_lowered(number, power.unsigned_abs())
+        exact_quotient(number, power.unsigned_abs())
     } else {
-        raised(number, power as u64)
+        product_with_power(number, power as u64)
     }
 }
 
@@ -34,17 +34,17 @@ pub fn is_within(most: u64, number: u128, power: i64) -> bool
     ensures { result ≡ is_scaled_within most number power }
 {
     if power < 0 {
-        is_lowered_within(most, number, power.unsigned_abs())
+        is_quotient_within(most, number, power.unsigned_abs())
     } else {
-        match raised(number, power as u64) {
-            Some(raised) => raised <= u128::from(most),
+        match product_with_power(number, power as u64) {
+            Some(product) => product <= u128::from(most),
             None => false,
         }
     }
 }
 
 // The number times ten to a power, where that is at most 10^38.
-fn raised(number: u128, power: u64) -> Option<u128>
+fn product_with_power(number: u128, power: u64) -> Option<u128>
     ensures { result ≡ (if nat_le (number * 10 ^ power) (10 ^ 38) then Some (number * 10 ^ power) else None) }
 {
     if number == 0 {
@@ -57,7 +57,7 @@ fn raised(number: u128, power: u64) -> Option<u128>
 }
 
 // The number over ten to a power, cut.
-fn lowered(number: u128, power: u64) -> u128
+fn quotient_by_power(number: u128, power: u64) -> u128
     ensures { result ≡ number / 10 ^ power }
 {
     if power > 38 {
@@ -68,7 +68,7 @@ fn lowered(number: u128, power: u64) -> u128
 }
 
 // The number over ten to a power, where that is whole.
-fn exactly_lowered(number: u128, power: u64) -> Option<u128>
+fn exact_quotient(number: u128, power: u64) -> Option<u128>
     ensures { result ≡ (if number % 10 ^ power == 0 then Some (number / 10 ^ power) else None) }
 {
     if power > 38 {
@@ -84,7 +84,7 @@ fn exactly_lowered(number: u128, power: u64) -> Option<u128>
 }
 
 // Whether the number over ten to a power is at most `most`, uncut.
-fn is_lowered_within(most: u64, number: u128, power: u64) -> bool
+fn is_quotient_within(most: u64, number: u128, power: u64) -> bool
     ensures { result ≡ nat_le number (most * 10 ^ power) }
 {
     if power > 38 {

@@ -11,7 +11,7 @@ pub fn whole_within(number: &Decimal, low: u32, high: u32) -> Option<u32>
     ensures value { IfSome result (λ whole. whole ≡ count_of number.now) }
     ensures within { IfSome result (λ whole. (low ≤ whole) × (whole ≤ high)) }
 {
-    let whole = number.whole()?;
+    let whole = number.to_whole()?;
     if number.is_negative() || whole < u128::from(low) || u128::from(high) < whole {
         return None;
     }

@@ -11,23 +11,23 @@ use Rattle.duties.specs.Duties.{first}
 use Rattle.duties.proofs.Orders.{this_met, this_fails, unless_holds, unless_fails, unless_met, all_met, each_met}
 use Rattle.photo_web.specs.declared.faults.WebFault.TheVariants.{Planes}
 use Rattle.photo_web.specs.Web.{PhotometricWeb}
-use Rattle.photo_web.specs.Validity.{ArePlanes, AreGammas, IsWeb, rises, angle_duty, first_unfit, plane_duties, gamma_duties, web_duties}
+use Rattle.photo_web.specs.Validity.{ArePlanes, AreGammas, IsWeb, rises_at, rise_duty, first_unfit, plane_duties, gamma_duties, web_duties}
 
 -- one angle
-pub angle_met : (most : ℕ) (angles : List ℕ) (at : ℕ) → rises angles at ≡ true → slice_index angles at ≤ most → angle_duty most angles at ≡ None
+pub angle_met : (most : ℕ) (angles : List ℕ) (at : ℕ) → rises_at angles at ≡ true → slice_index angles at ≤ most → rise_duty most angles at ≡ None
 angle_met most angles at up low = unless_holds _ _ (and_from _ _ up (le-leb _ _ low))
 
-pub angle_falls : (most : ℕ) (angles : List ℕ) (at : ℕ) → rises angles at ≡ false → angle_duty most angles at ≡ Some at
+pub angle_falls : (most : ℕ) (angles : List ℕ) (at : ℕ) → rises_at angles at ≡ false → rise_duty most angles at ≡ Some at
 angle_falls most angles at down = unless_fails _ _ (and_left _ _ down)
 
-pub angle_past : (most : ℕ) (angles : List ℕ) (at : ℕ) → most < slice_index angles at → angle_duty most angles at ≡ Some at
+pub angle_past : (most : ℕ) (angles : List ℕ) (at : ℕ) → most < slice_index angles at → rise_duty most angles at ≡ Some at
 angle_past most angles at high = unless_fails _ _ (and_right _ _ (lt-leb _ _ high))
 
 -- where each angle is met, they rise and none is above the most
 module _ (most : ℕ) (angles : List ℕ) (met : first_unfit most angles ≡ None) where
-  parts : (at : ℕ) → at < length angles → (rises angles at ≡ true) × (leb (slice_index angles at) most ≡ true)
+  parts : (at : ℕ) → at < length angles → (rises_at angles at ≡ true) × (leb (slice_index angles at) most ≡ true)
   unfolding first_unfit
-  parts at h = and_parts _ _ (unless_met _ _ (each_met (angle_duty most angles) (length angles) at met h))
+  parts at h = and_parts _ _ (unless_met _ _ (each_met (rise_duty most angles) (length angles) at met h))
 
   pub fit_rising : IsStrictlyIncreasing angles
   fit_rising k h =

@@ -30,16 +30,16 @@ pub record IsWeb (w : PhotometricWeb) : Type 0 where
   pub limited : All (λ value. value ≤ 10 ^ 15) w.values
 
 -- the angle at a place is above the one before it, if there is one
-abbrev pub rises : List ℕ → ℕ → Bool
-rises angles at = at == 0 || nat_lt (slice_index angles (at - 1)) (slice_index angles at)
+abbrev pub rises_at : List ℕ → ℕ → Bool
+rises_at angles at = at == 0 || nat_lt (slice_index angles (at - 1)) (slice_index angles at)
 
 -- the angle at a place rises and is at most the most; else the fault is the place
-abbrev pub angle_duty : ℕ → List ℕ → ℕ → Duty ℕ
-angle_duty most angles at = unless (rises angles at && nat_le (slice_index angles at) most) at
+abbrev pub rise_duty : ℕ → List ℕ → ℕ → Duty ℕ
+rise_duty most angles at = unless (rises_at angles at && nat_le (slice_index angles at) most) at
 
 -- the first place whose angle doesn't rise or is above the most
 unfoldable pub first_unfit : ℕ → List ℕ → Duty ℕ
-first_unfit most angles = each (length angles) (angle_duty most angles)
+first_unfit most angles = each (length angles) (rise_duty most angles)
 
 -- Planes start at 0 (no planes do so as well), each rises and is at most a full turn, there are 2 to 1,441, and the last
 -- is a full turn. Too few or too many offend at their count.

@@ -8,12 +8,12 @@ pub record PhotometricWeb : Type 0 where
   pub values : List ℕ
 
 -- a row of values of which each row has as many as the width
-abbrev pub row_from : ℕ → List ℕ → ℕ → List ℕ
-row_from width values row = take width (drop (row * width) values)
+abbrev pub row_values : ℕ → List ℕ → ℕ → List ℕ
+row_values width values row = take width (drop (row * width) values)
 
 -- the values on a plane
-abbrev pub row_of : PhotometricWeb → ℕ → List ℕ
-row_of w plane = row_from (length w.gammas) w.values plane
+abbrev pub plane_values : PhotometricWeb → ℕ → List ℕ
+plane_values w plane = row_values (length w.gammas) w.values plane
 
 -- the value on a plane at a gamma
 abbrev pub value_at : PhotometricWeb → ℕ → ℕ → ℕ

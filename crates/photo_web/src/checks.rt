@@ -1,7 +1,7 @@
 // The tests that a web passes.
 ghost use Rattle.std.specs.Prelude.{◌≡◌, ◌<◌, ◌^◌, nat_lt, length, position, IfSome};
 ghost use Rattle.duties.specs.Duties.{first};
-ghost use Rattle.photo_web.specs.Validity.{rises, first_unfit, plane_duties, gamma_duties, web_duties};
+ghost use Rattle.photo_web.specs.Validity.{rises_at, first_unfit, plane_duties, gamma_duties, web_duties};
 
 use crate::{FULL_TURN, HALF_TURN, MOST_GAMMAS, MOST_INTENSITY, MOST_PLANES, WebFault};
 
@@ -81,7 +81,7 @@ fn unfit_angle(angles: &[u32], most: u32) -> Option<u32>
     ensures { result ≡ first_unfit most angles.now }
 {
     for (at, angle) in angles.iter().enumerate() {
-        if !rises(angles, at) || *angle > most {
+        if !rises_at(angles, at) || *angle > most {
             return Some(at as u32);
         }
     }
@@ -89,9 +89,9 @@ fn unfit_angle(angles: &[u32], most: u32) -> Option<u32>
 }
 
 // Whether the angle at a place is above the one before it, if there is one.
-fn rises(angles: &[u32], at: usize) -> bool
+fn rises_at(angles: &[u32], at: usize) -> bool
     requires { at < length angles.now }
-    ensures { result ≡ rises angles.now at }
+    ensures { result ≡ rises_at angles.now at }
 {
     at == 0 || angles[at - 1] < angles[at]
 }

@@ -1,7 +1,7 @@
 // A valid photometric web.
 ghost use Rattle.std.specs.Prelude.{◌≡◌, ◌<◌, ◌≤◌, ◌^◌, IfOk, length};
 ghost use Rattle.duties.specs.Duties.{first, Answers};
-ghost use Rattle.photo_web.specs.Web.{row_of, value_at};
+ghost use Rattle.photo_web.specs.Web.{plane_values, value_at};
 ghost use Rattle.photo_web.specs.Validity.{IsWeb, web_duties};
 
 use crate::WebFault;
@@ -92,7 +92,7 @@ impl Web {
     /// The values on a plane, one for each gamma.
     pub fn row(&self, plane: usize) -> &[u64]
         requires { plane < length self.now.planes }
-        ensures { result.now ≡ row_of self.now plane }
+        ensures { result.now ≡ plane_values self.now plane }
     {
         let width = self.gammas.len();
         &self.values[plane * width..(plane + 1) * width]

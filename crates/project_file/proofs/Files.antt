@@ -7,8 +7,7 @@ use Rattle.std.specs.Str.{bytes_eq}
 use Rattle.std.proofs.lemmas.Bool.{cases_Bool, and_parts}
 use Rattle.std.proofs.lemmas.Slice.Eq.{bytes_eq-Decides}
 use Rattle.indexmap.specs.IndexSet.{insert_key}
-use Rattle.project_file.specs.Projects.{with_file}
-use Rattle.project_file.specs.Texts.{texts, are_names}
+use Rattle.project_file.specs.Shapes.{texts, are_names, with_file}
 
 any_texts : (test : List ℕ → Bool) (ks : List (Bor (List ℕ))) → list_any test (texts ks) ≡ list_any (λ k. test k.now) ks
 any_texts test [] = refl

@@ -3,4 +3,4 @@ pub mod Fields
 pub mod Names
 pub mod Projects
 pub mod Tables
-pub mod Texts
+pub mod Shapes

@@ -1,8 +1,8 @@
 -- What the bytes of a project file stand for: a project, or the first of its duties that isn't met. The format is this
 -- project's own.
-use Rattle.std.specs.Prelude.{◌≡◌, ℕ, zero, suc, ◌+◌, ◌^◌, ◌<◌, ◌≤◌, ◌==◌, nat_le, true, false, if◌then◌else◌, List, [], ◌∷◌, ◌++◌, length, map, slice_get, codes, Option, Some, None, Result, Err}
+use Rattle.std.specs.Prelude.{◌≡◌, ℕ, ◌+◌, ◌^◌, ◌<◌, ◌≤◌, ◌==◌, nat_le, true, false, if◌then◌else◌, List, [], ◌∷◌, length, map, filter, not, take, slice_get, codes, Option, Some, None, Result, Err}
 use Rattle.std.specs.Option.{option_map_or}
-use Rattle.std.specs.List.{list_any, position_or_len, range_with_len, All}
+use Rattle.std.specs.List.{list_any, position_or_len, All}
 use Rattle.std.specs.Str.{bytes_eq, is_utf8}
 use Rattle.duties.specs.Duties.{Duty, unless, first, each, judged}
 use Rattle.toml.specs.Data.{Data, Members, get_member}
@@ -11,45 +11,41 @@ use Rattle.room_patches.specs.declared.spec.RoomSpec.{RoomSpec}
 use Rattle.fixtures.specs.declared.spec.FixtureSpec.{FixtureSpec}
 use Rattle.project_file.specs.declared.faults.ProjFault.{ProjFault}
 use Rattle.project_file.specs.declared.faults.ProjFault.TheVariants as fault
-use Rattle.project_file.specs.declared.places.Place.TheVariants.{Top, Room, Solver, Luminaire}
+use Rattle.project_file.specs.declared.tables.TableAt.TheVariants.{Top, Room, Solver, Luminaire}
 use Rattle.project_file.specs.Names.{fault_name}
-use Rattle.project_file.specs.Fields.{within, number_of, text_of, table_of, list_of}
+use Rattle.project_file.specs.Fields.{is_number_within, toml_number, toml_text, toml_table, toml_list}
 use Rattle.project_file.specs.Tables.{file_field, place_fields}
 use Rattle.project_file.specs.FieldDuties.{keys_duty, field_duty, fields_duty, table_duty}
 
--- the value at a key of a table
-abbrev pub at : Members → List ℕ → Option Data
-at t key = get_member key t
-
 -- the tables of a file
 abbrev pub room_in : Members → Members
-room_in t = table_of (at t (codes "room"))
+room_in t = toml_table (get_member (codes "room") t)
 
 abbrev pub solver_in : Members → Members
-solver_in t = table_of (at t (codes "solver"))
+solver_in t = toml_table (get_member (codes "solver") t)
 
 abbrev pub luminaires_in : Members → List Data
-luminaires_in t = list_of (at t (codes "luminaire"))
+luminaires_in t = toml_list (get_member (codes "luminaire") t)
 
--- one luminaire of a list
+-- luminaire i of a list
 abbrev pub luminaire : List Data → ℕ → Members
-luminaire luminaires i = table_of (slice_get luminaires i)
+luminaire luminaires i = toml_table (slice_get luminaires i)
 
--- the file that it names
-abbrev pub file : List Data → ℕ → List ℕ
-file luminaires i = text_of (at (luminaire luminaires i) (codes "file"))
+-- the name of the file that a luminaire's table gives
+abbrev pub file_name : Members → List ℕ
+file_name t = toml_text (get_member (codes "file") t)
 
--- some files, and behind them one more where it isn't among them
-abbrev pub with_file : List (List ℕ) → List ℕ → List (List ℕ)
-with_file files name = if list_any (bytes_eq name) files then files else files ++ name ∷ []
+-- the names that some luminaires give, one each
+abbrev pub file_names : List Data → List (List ℕ)
+file_names luminaires = map (λ luminaire. file_name (toml_table (Some luminaire))) luminaires
 
--- the different files that the first n luminaires name, in the order in which each is named first
-abbrev pub files_named : List Data → ℕ → List (List ℕ)
-files_named luminaires zero = []
-files_named luminaires (suc n) = with_file (files_named luminaires n) (file luminaires n)
+-- some names without later repetitions: each stands where it came first
+abbrev pub without_repetitions : List (List ℕ) → List (List ℕ)
+without_repetitions [] = []
+without_repetitions (name ∷ names) = name ∷ filter (λ other. not (bytes_eq name other)) (without_repetitions names)
 
--- the duty of luminaire i with this table, up to which these different files are named: its keys, its file, that the files are
--- no more than 32, and its other fields
+-- the duty of luminaire i with this table, where it and those before it name these different files: its keys, its file, that
+-- the files are no more than 32, and its other fields
 unfoldable pub luminaire_table_duty : ℕ → List (List ℕ) → Members → Duty ProjFault
 luminaire_table_duty i files t = first (
     keys_duty (Luminaire i) t
@@ -60,12 +56,12 @@ luminaire_table_duty i files t = first (
 
 -- the duty of luminaire i of a list
 abbrev pub luminaire_duty : List Data → ℕ → Duty ProjFault
-luminaire_duty luminaires i = luminaire_table_duty i (files_named luminaires (i + 1)) (luminaire luminaires i)
+luminaire_duty luminaires i = luminaire_table_duty i (without_repetitions (file_names (take (i + 1) luminaires))) (luminaire luminaires i)
 
 -- all duties of a file: its version, which is 1, the top table, the room, the solver, and each luminaire
 unfoldable pub project_duties : Members → List (Duty ProjFault)
 project_duties t =
-    unless (option_map_or (within 1 1) (at t (codes "version")) false) fault.Version
+    unless (option_map_or (is_number_within 1 1) (get_member (codes "version") t) false) fault.Version
     ∷ table_duty Top t
     ∷ table_duty Room (room_in t)
     ∷ table_duty Solver (solver_in t)
@@ -73,7 +69,7 @@ project_duties t =
     ∷ []
 
 -- a room to light, the residual flux at which the solver stops, the files of the photometries, and the luminaires
-pub record LightingProject : Type 0 where
+pub record Project : Type 0 where
   pub room : RoomSpec
   pub threshold : ℕ
   pub files : List (List ℕ)
@@ -82,46 +78,45 @@ pub record LightingProject : Type 0 where
 -- the room that a table says
 unfoldable pub room_of : Members → RoomSpec
 room_of t = record {
-  width = number_of (at t (codes "width"));
-  depth = number_of (at t (codes "depth"));
-  height = number_of (at t (codes "height"));
-  nx = number_of (slice_get (list_of (at t (codes "counts"))) 0);
-  ny = number_of (slice_get (list_of (at t (codes "counts"))) 1);
-  nz = number_of (slice_get (list_of (at t (codes "counts"))) 2);
-  floor = number_of (at t (codes "floor"));
-  ceiling = number_of (at t (codes "ceiling"));
-  walls = number_of (at t (codes "walls"));
+  width = toml_number (get_member (codes "width") t);
+  depth = toml_number (get_member (codes "depth") t);
+  height = toml_number (get_member (codes "height") t);
+  nx = toml_number (slice_get (toml_list (get_member (codes "counts") t)) 0);
+  ny = toml_number (slice_get (toml_list (get_member (codes "counts") t)) 1);
+  nz = toml_number (slice_get (toml_list (get_member (codes "counts") t)) 2);
+  floor = toml_number (get_member (codes "floor") t);
+  ceiling = toml_number (get_member (codes "ceiling") t);
+  walls = toml_number (get_member (codes "walls") t);
 }
 
 -- the luminaire that a table says, with the web of this number
-unfoldable pub fixture_of : ℕ → Members → FixtureSpec
-fixture_of web t = record {
+unfoldable pub fixture_spec : ℕ → Members → FixtureSpec
+fixture_spec web t = record {
   web = web;
-  x = number_of (at t (codes "x"));
-  y = number_of (at t (codes "y"));
-  z = number_of (at t (codes "z"));
-  rotation = number_of (at t (codes "rotation"));
-  level = number_of (at t (codes "level"));
+  x = toml_number (get_member (codes "x") t);
+  y = toml_number (get_member (codes "y") t);
+  z = toml_number (get_member (codes "z") t);
+  rotation = toml_number (get_member (codes "rotation") t);
+  level = toml_number (get_member (codes "level") t);
 }
 
--- luminaire i, where its web has the number of its file's place among these files
-abbrev pub fixture : List Data → List (List ℕ) → ℕ → FixtureSpec
-fixture luminaires files i = fixture_of (position_or_len (bytes_eq (file luminaires i)) files) (luminaire luminaires i)
+-- the same where the web is the number of its file among these files
+abbrev pub fixture_spec_among : List (List ℕ) → Members → FixtureSpec
+fixture_spec_among files t = fixture_spec (position_or_len (bytes_eq (file_name t)) files) t
 
--- the first n luminaires of a list, over these files
-abbrev pub fixtures_named : List Data → List (List ℕ) → ℕ → List FixtureSpec
-fixtures_named luminaires files n = map (fixture luminaires files) (range_with_len 0 n)
+-- some luminaires over these files
+abbrev pub fixture_specs_among : List (List ℕ) → List Data → List FixtureSpec
+fixture_specs_among files luminaires = map (λ luminaire. fixture_spec_among files (toml_table (Some luminaire))) luminaires
 
 -- the project that a file says
-abbrev pub project_in : Members → LightingProject
+abbrev pub project_in : Members → Project
 project_in t =
-    let luminaires = luminaires_in t in
-    let files = files_named luminaires (length luminaires) in
+    let files = without_repetitions (file_names (luminaires_in t)) in
     record {
       room = room_of (room_in t);
-      threshold = number_of (at (solver_in t) (codes "threshold"));
+      threshold = toml_number (get_member (codes "threshold") (solver_in t));
       files = files;
-      fixtures = fixtures_named luminaires files (length luminaires);
+      fixtures = fixture_specs_among files (luminaires_in t);
     }
 
 -- the TOML tree of some bytes, where they are UTF-8 and a TOML document
@@ -129,12 +124,12 @@ abbrev pub tree_of : List ℕ → Option Members
 tree_of bytes = if is_utf8 bytes then parse_document bytes else None
 
 -- the project of a tree, or its first fault
-abbrev pub project_of_tree : Option Members → Result LightingProject ProjFault
+abbrev pub project_of_tree : Option Members → Result Project ProjFault
 project_of_tree None = Err fault.Toml
 project_of_tree (Some t) = judged (project_duties t) (project_in t)
 
 -- the project that some bytes stand for, or why they stand for none
-abbrev pub project_of : List ℕ → Result LightingProject ProjFault
+abbrev pub project_of : List ℕ → Result Project ProjFault
 project_of bytes = project_of_tree (tree_of bytes)
 
 -- What each project has: a threshold from 1 to 10^16, at most 256 luminaires, at most 32 files, for each luminaire a file, and

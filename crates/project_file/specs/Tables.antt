@@ -1,55 +1,55 @@
 -- The tables of the project file. The format is this project's own.
-use Rattle.std.specs.Prelude.{◌-◌, ◌^◌, Bool, List, [], ◌∷◌}
+use Rattle.std.specs.Prelude.{◌-◌, ◌^◌, Bool, List, [], ◌∷◌, codes}
 use Rattle.toml.specs.Data.{Data}
-use Rattle.project_file.specs.declared.places.Place.{Place}
-use Rattle.project_file.specs.declared.places.Place.TheVariants.{Top, Room, Solver, Luminaire}
-use Rattle.project_file.specs.Fields.{Field, field, optional, number, text, table, list, within, bytes_within, exactly, at_most, any}
+use Rattle.project_file.specs.declared.tables.TableAt.{TableAt}
+use Rattle.project_file.specs.declared.tables.TableAt.TheVariants.{Top, Room, Solver, Luminaire}
+use Rattle.project_file.specs.Fields.{Field, field, optional_field, number, text, table, list, is_number_within, is_text_within, has_exactly, has_at_most, is_any_value}
 
 -- a number of 32 bits
-abbrev pub small : Data → Bool
-small = within 0 (2 ^ 32 - 1)
+abbrev pub is_small : Data → Bool
+is_small = is_number_within 0 (2 ^ 32 - 1)
 
 -- the fields of the top table
 abbrev pub top_fields : List Field
 top_fields =
-    field "version" number (within 1 1)
-    ∷ field "room" table any
-    ∷ field "solver" table any
-    ∷ optional "luminaire" (list table) (at_most 256)
+    field "version" number (is_number_within 1 1)
+    ∷ field "room" table is_any_value
+    ∷ field "solver" table is_any_value
+    ∷ optional_field (codes "luminaire") (list table) (has_at_most 256)
     ∷ []
 
 -- the fields of the room: lengths in millimetres, into how many parts the lengths are cut, and reflectances in per mille
 abbrev pub room_fields : List Field
 room_fields =
-    field "width" number small
-    ∷ field "depth" number small
-    ∷ field "height" number small
-    ∷ field "counts" (list number) (exactly 3 small)
-    ∷ field "floor" number small
-    ∷ field "ceiling" number small
-    ∷ field "walls" number small
+    field "width" number is_small
+    ∷ field "depth" number is_small
+    ∷ field "height" number is_small
+    ∷ field "counts" (list number) (has_exactly 3 is_small)
+    ∷ field "floor" number is_small
+    ∷ field "ceiling" number is_small
+    ∷ field "walls" number is_small
     ∷ []
 
 -- the field of the solver: the residual flux in nanolumens below which it stops
 abbrev pub solver_fields : List Field
-solver_fields = field "threshold" number (within 1 (10 ^ 16)) ∷ []
+solver_fields = field "threshold" number (is_number_within 1 (10 ^ 16)) ∷ []
 
 -- the file of a luminaire
 abbrev pub file_field : Field
-file_field = field "file" text (bytes_within 1 255)
+file_field = field "file" text (is_text_within 1 255)
 
 -- where a luminaire hangs in millimetres, how it is turned in millidegrees, and its level in per mille
 abbrev pub place_fields : List Field
 place_fields =
-    field "x" number small
-    ∷ field "y" number small
-    ∷ field "z" number small
-    ∷ field "rotation" number small
-    ∷ field "level" number small
+    field "x" number is_small
+    ∷ field "y" number is_small
+    ∷ field "z" number is_small
+    ∷ field "rotation" number is_small
+    ∷ field "level" number is_small
     ∷ []
 
--- the fields of the table at a place
-abbrev pub fields_of : Place → List Field
+-- the fields of a table
+abbrev pub fields_of : TableAt → List Field
 fields_of Top = top_fields
 fields_of Room = room_fields
 fields_of Solver = solver_fields

@@ -8,10 +8,10 @@
 
 mod faults;
 mod luminaires;
-mod places;
 mod project;
 mod reader;
 mod sections;
+mod tables;
 
 pub use faults::ProjFault;
 pub use project::Project;

@@ -6,17 +6,17 @@ ghost use Rattle.duties.specs.Duties.{Answers, first, each, unless};
 ghost use Rattle.toml.specs.Data.{get_member};
 ghost use Rattle.toml.specs.View.{items_view, table_view};
 ghost use Rattle.project_file.specs.declared.faults.ProjFault.TheVariants as fault;
-ghost use Rattle.project_file.specs.declared.places.Place.TheVariants as places;
+ghost use Rattle.project_file.specs.declared.tables.TableAt.TheVariants as table_at;
 ghost use Rattle.project_file.specs.Names.{fault_name};
-ghost use Rattle.project_file.specs.Fields.{listed, text_of, table as tables, is_kind};
+ghost use Rattle.project_file.specs.Fields.{toml_items, table as tables, is_kind};
 ghost use Rattle.project_file.specs.Tables.{file_field, place_fields};
 ghost use Rattle.project_file.specs.FieldDuties.{keys_duty, field_duty, fields_duty};
-ghost use Rattle.project_file.specs.Projects.{with_file, luminaire, files_named, fixture_of, fixtures_named, luminaire_table_duty, luminaire_duty};
-ghost use Rattle.project_file.specs.Texts.{texts, are_names};
+ghost use Rattle.project_file.specs.Projects.{luminaire, file_name, file_names, without_repetitions, fixture_spec, fixture_spec_among, fixture_specs_among, luminaire_table_duty, luminaire_duty};
+ghost use Rattle.project_file.specs.Shapes.{texts, are_names, with_file};
 
 use crate::ProjFault;
-use crate::places::Place;
 use crate::sections::Section;
+use crate::tables::TableAt;
 use fixtures::FixtureSpec;
 use indexmap::IndexSet;
 use lux_io::{Name, NameFault};
@@ -31,10 +31,10 @@ pub fn read_luminaires(
     alloc: Global,
     items: &[Value],
 ) -> Result<(Vec<Name>, Vec<FixtureSpec>), ProjFault>
-    requires { list_all (is_kind tables) (listed (items_view items.now)) ≡ true }
-    ensures answer { let luminaires = listed (items_view items.now) in Answers fault.Memory (each (length luminaires) (luminaire_duty luminaires)) result }
-    ensures files { IfOk result (λ r. let luminaires = listed (items_view items.now) in r.0.items ≡ files_named luminaires (length luminaires)) }
-    ensures fixtures { IfOk result (λ r. let luminaires = listed (items_view items.now) in r.1.items ≡ fixtures_named luminaires r.0.items (length luminaires)) }
+    requires { list_all (is_kind tables) (toml_items (items_view items.now)) ≡ true }
+    ensures answer { let luminaires = toml_items (items_view items.now) in Answers fault.Memory (each (length luminaires) (luminaire_duty luminaires)) result }
+    ensures files { IfOk result (λ r. let luminaires = toml_items (items_view items.now) in r.0.items ≡ without_repetitions (file_names luminaires)) }
+    ensures fixtures { IfOk result (λ r. let luminaires = toml_items (items_view items.now) in r.1.items ≡ fixture_specs_among r.0.items luminaires) }
     ensures many { IfOk result (λ r. length r.1.items ≡ length items.now) }
     ensures few_files { IfOk result (λ r. length r.0.items ≤ 32) }
     ensures webs { IfOk result (λ r. All (λ f. f.web < length r.0.items) r.1.items) }
@@ -43,18 +43,18 @@ pub fn read_luminaires(
     let mut files = IndexSet::new(alloc);
     let mut fixtures = Vec::with_capacity(alloc, items.len())?;
     for number in 0..items.len() {
-        let table = table_at(items, number);
+        let table = luminaire_table(items, number);
         fixtures.push(read_luminaire(alloc, number, table, &mut files)?)?;
     }
-    let names = names_of(alloc, &files)?;
+    let names = copy_names(alloc, &files)?;
     Ok((names, fixtures))
 }
 
 // The table of a luminaire.
-fn table_at(items: &[Value], number: usize) -> &Table
-    requires tables { list_all (is_kind tables) (listed (items_view items.now)) ≡ true }
+fn luminaire_table(items: &[Value], number: usize) -> &Table
+    requires tables { list_all (is_kind tables) (toml_items (items_view items.now)) ≡ true }
     requires within { number < length items.now }
-    ensures { table_view result.now ≡ luminaire (listed (items_view items.now)) number }
+    ensures { table_view result.now ≡ luminaire (toml_items (items_view items.now)) number }
 {
     match items[number].as_table() {
         Some(table) => table,
@@ -70,18 +70,18 @@ fn read_luminaire<'a>(
     files: &mut IndexSet<&'a str>,
 ) -> Result<FixtureSpec, ProjFault>
     requires { are_names (texts files.old.keys) ≡ true }
-    ensures answer { Answers fault.Memory (luminaire_table_duty number (with_file (texts files.old.keys) (text_of (get_member (codes "file") (table_view table.now)))) (table_view table.now)) result }
-    ensures value { IfOk result (λ r. r ≡ fixture_of (position_or_len (bytes_eq (text_of (get_member (codes "file") (table_view table.now)))) (texts files.new.keys)) (table_view table.now)) }
-    ensures files { OnOk result (texts files.new.keys ≡ with_file (texts files.old.keys) (text_of (get_member (codes "file") (table_view table.now)))) }
+    ensures answer { Answers fault.Memory (luminaire_table_duty number (with_file (texts files.old.keys) (file_name (table_view table.now))) (table_view table.now)) result }
+    ensures value { IfOk result (λ r. r ≡ fixture_spec_among (texts files.new.keys) (table_view table.now)) }
+    ensures files { OnOk result (texts files.new.keys ≡ with_file (texts files.old.keys) (file_name (table_view table.now))) }
     ensures few { OnOk result (length files.new.keys ≤ 32) }
     ensures named { OnOk result (are_names (texts files.new.keys) ≡ true) }
 {
     let section = Section {
         alloc,
-        place: Place::Luminaire(number),
+        table_at: TableAt::Luminaire(number),
         table,
     };
-    section.keys()?;
+    section.check_keys()?;
     let web = read_web(&section, files)?;
     read_fixture(&section, web)
 }
@@ -89,23 +89,23 @@ fn read_luminaire<'a>(
 // The number of the luminaire's file, which is then one of the files.
 fn read_web<'a>(section: &Section<'a>, files: &mut IndexSet<&'a str>) -> Result<u32, ProjFault>
     requires { are_names (texts files.old.keys) ≡ true }
-    ensures answer { Answers fault.Memory (first (field_duty section.now.place (table_view section.now.table.now) file_field
-        ∷ unless (nat_le (length (with_file (texts files.old.keys) (text_of (get_member (codes "file") (table_view section.now.table.now))))) 32) (fault.Range (fault_name section.now.place (codes "file"))) ∷ [])) result }
-    ensures value { IfOk result (λ web. web ≡ position_or_len (bytes_eq (text_of (get_member (codes "file") (table_view section.now.table.now)))) (texts files.new.keys)) }
-    ensures files { OnOk result (texts files.new.keys ≡ with_file (texts files.old.keys) (text_of (get_member (codes "file") (table_view section.now.table.now)))) }
+    ensures answer { Answers fault.Memory (first (field_duty section.now.table_at (table_view section.now.table.now) file_field
+        ∷ unless (nat_le (length (with_file (texts files.old.keys) (file_name (table_view section.now.table.now)))) 32) (fault.Range (fault_name section.now.table_at (codes "file"))) ∷ [])) result }
+    ensures value { IfOk result (λ web. web ≡ position_or_len (bytes_eq (file_name (table_view section.now.table.now))) (texts files.new.keys)) }
+    ensures files { OnOk result (texts files.new.keys ≡ with_file (texts files.old.keys) (file_name (table_view section.now.table.now))) }
     ensures few { OnOk result (length files.new.keys ≤ 32) }
     ensures named { OnOk result (are_names (texts files.new.keys) ≡ true) }
 {
     let file = section.text("file")?;
-    let web = number_of(files, file)?;
+    let web = add_file(files, file)?;
     if files.len() > MOST_FILES {
-        return Err(section.out_of_range("file"));
+        return Err(section.range_fault("file"));
     }
     Ok(web as u32)
 }
 
 // The number of a file, which is then one of the files.
-fn number_of<'a>(files: &mut IndexSet<&'a str>, file: &'a str) -> Result<usize, ProjFault>
+fn add_file<'a>(files: &mut IndexSet<&'a str>, file: &'a str) -> Result<usize, ProjFault>
     ensures memory { IfErr result (λ f. f ≡ fault.Memory) }
     ensures value { IfOk result (λ number. number ≡ position_or_len (bytes_eq file.now) (texts files.new.keys)) }
     ensures within { IfOk result (λ number. number < length files.new.keys) }
@@ -116,10 +116,10 @@ fn number_of<'a>(files: &mut IndexSet<&'a str>, file: &'a str) -> Result<usize, 
 }
 
 // The luminaire with this web.
-#[tactic(auto, using(duties::proofs::Orders::steps), unfolding(crate::specs::FieldDuties::fields_duty, crate::specs::Projects::fixture_of))]
+#[tactic(auto, using(duties::proofs::Orders::steps), unfolding(crate::specs::FieldDuties::fields_duty, crate::specs::Projects::fixture_spec))]
 fn read_fixture(section: &Section, web: u32) -> Result<FixtureSpec, ProjFault>
-    ensures answer { Answers fault.Memory (fields_duty section.now.place place_fields (table_view section.now.table.now)) result }
-    ensures value { IfOk result (λ r. r ≡ fixture_of web (table_view section.now.table.now)) }
+    ensures answer { Answers fault.Memory (fields_duty section.now.table_at place_fields (table_view section.now.table.now)) result }
+    ensures value { IfOk result (λ r. r ≡ fixture_spec web (table_view section.now.table.now)) }
 {
     let x = section.small("x")?;
     let y = section.small("y")?;
@@ -137,7 +137,7 @@ fn read_fixture(section: &Section, web: u32) -> Result<FixtureSpec, ProjFault>
 }
 
 // The names of the files.
-fn names_of(alloc: Global, files: &IndexSet<&str>) -> Result<Vec<Name>, ProjFault>
+fn copy_names(alloc: Global, files: &IndexSet<&str>) -> Result<Vec<Name>, ProjFault>
     requires { are_names (texts files.now.keys) ≡ true }
     ensures memory { IfErr result (λ f. f ≡ fault.Memory) }
     ensures value { IfOk result (λ names. names.items ≡ texts files.now.keys) }
@@ -145,13 +145,13 @@ fn names_of(alloc: Global, files: &IndexSet<&str>) -> Result<Vec<Name>, ProjFaul
     let kept = files.as_slice();
     let mut names = Vec::with_capacity(alloc, kept.len())?;
     for file in kept {
-        names.push(name_of(alloc, file)?)?;
+        names.push(copy_name(alloc, file)?)?;
     }
     Ok(names)
 }
 
 // The name of a file.
-fn name_of(alloc: Global, file: &str) -> Result<Name, ProjFault>
+fn copy_name(alloc: Global, file: &str) -> Result<Name, ProjFault>
     requires { are_names (file.now ∷ []) ≡ true }
     ensures memory { IfErr result (λ f. f ≡ fault.Memory) }
     ensures value { IfOk result (λ name. name ≡ file.now) }

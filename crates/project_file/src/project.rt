@@ -1,7 +1,7 @@
 // A project.
 ghost use Rattle.std.specs.Prelude.{◌≡◌, ◌≤◌, ◌<◌, ◌^◌, length};
 ghost use Rattle.std.specs.List.{All};
-ghost use Rattle.project_file.specs.Projects.{LightingProject, IsProject};
+ghost use Rattle.project_file.specs.Projects.{IsProject};
 
 use fixtures::FixtureSpec;
 use lux_io::Name;
@@ -19,9 +19,9 @@ pub struct Project {
 }
 
 impl Model for Project {
-    ghost use Rattle.project_file.specs.Projects.{LightingProject, IsProject};
+    ghost use Rattle.project_file.specs.Projects.{Project, IsProject};
 
-    ghost Value = { LightingProject };
+    ghost Value = { Project };
 
     ghost view = { λ p. record { room = p.room; threshold = p.threshold; files = p.files.items; fixtures = p.fixtures.items } };
 
@@ -78,21 +78,5 @@ impl Project {
         ensures webs { All (λ f. f.web < length self.now.files) result.now }
     {
         self.fixtures.as_slice()
-    }
-
-    /// The room, the threshold, the files and the luminaires. Takes no memory.
-    pub fn into_parts(self) -> (RoomSpec, u64, Vec<Name>, Vec<FixtureSpec>)
-        ensures room { result.0 ≡ self.room }
-        ensures threshold { result.1 ≡ self.threshold }
-        ensures files { result.2.items ≡ self.files }
-        ensures fixtures { result.3.items ≡ self.fixtures }
-    {
-        let Project {
-            room,
-            threshold,
-            files,
-            fixtures,
-        } = self;
-        (room, threshold, files, fixtures)
     }
 }

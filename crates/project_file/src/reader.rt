@@ -6,15 +6,15 @@ ghost use Rattle.duties.specs.Duties.{Answers, first, unless};
 ghost use Rattle.toml.specs.Data.{get_member};
 ghost use Rattle.toml.specs.View.{items_view, table_view};
 ghost use Rattle.project_file.specs.declared.faults.ProjFault.TheVariants.{Memory, Toml, Version};
-ghost use Rattle.project_file.specs.declared.places.Place.TheVariants as places;
-ghost use Rattle.project_file.specs.Fields.{listed, is_kind, table as tables, within, number_of};
+ghost use Rattle.project_file.specs.declared.tables.TableAt.TheVariants as table_at;
+ghost use Rattle.project_file.specs.Fields.{toml_items, is_kind, table as tables, is_number_within, toml_number};
 ghost use Rattle.project_file.specs.Tables.{top_fields, room_fields};
 ghost use Rattle.project_file.specs.FieldDuties.{fields_duty, table_duty};
 ghost use Rattle.project_file.specs.Projects.{tree_of, project_duties, project_in, room_in, solver_in, luminaires_in, room_of, project_of, IsProject};
 
 use crate::luminaires::read_luminaires;
-use crate::places::Place;
 use crate::sections::Section;
+use crate::tables::TableAt;
 use crate::{ProjFault, Project};
 use room_patches::RoomSpec;
 use std::alloc::Global;
@@ -79,35 +79,35 @@ fn read_table(alloc: Global, table: &Table) -> Result<Project, ProjFault>
 // The version, and what the top table says.
 #[tactic(auto, using(duties::proofs::Orders::steps), unfolding(crate::specs::FieldDuties::table_duty))]
 fn read_top(alloc: Global, table: &Table) -> Result<Top, ProjFault>
-    ensures answer { Answers Memory (first (unless (option_map_or (within 1 1) (get_member (codes "version") (table_view table.now)) false) Version ∷ table_duty places.Top (table_view table.now) ∷ [])) result }
+    ensures answer { Answers Memory (first (unless (option_map_or (is_number_within 1 1) (get_member (codes "version") (table_view table.now)) false) Version ∷ table_duty table_at.Top (table_view table.now) ∷ [])) result }
     ensures room { IfOk result (λ top. table_view top.room.now ≡ room_in (table_view table.now)) }
     ensures solver { IfOk result (λ top. table_view top.solver.now ≡ solver_in (table_view table.now)) }
-    ensures luminaires { IfOk result (λ top. listed (items_view top.luminaires.now) ≡ luminaires_in (table_view table.now)) }
+    ensures luminaires { IfOk result (λ top. toml_items (items_view top.luminaires.now) ≡ luminaires_in (table_view table.now)) }
     ensures few { IfOk result (λ top. length top.luminaires.now ≤ 256) }
-    ensures tables { IfOk result (λ top. list_all (is_kind tables) (listed (items_view top.luminaires.now)) ≡ true) }
+    ensures tables { IfOk result (λ top. list_all (is_kind tables) (toml_items (items_view top.luminaires.now)) ≡ true) }
 {
     let top = Section {
         alloc,
-        place: Place::Top,
+        table_at: TableAt::Top,
         table,
     };
     if !top.is_version_one() {
         return Err(ProjFault::Version);
     }
-    top.keys()?;
+    top.check_keys()?;
     read_top_fields(&top)
 }
 
 // What the top table says, whose version is 1.
 #[tactic(auto, using(duties::proofs::Orders::steps, crate::proofs::Versions::version_met), unfolding(crate::specs::FieldDuties::fields_duty))]
 fn read_top_fields<'a>(top: &Section<'a>) -> Result<Top<'a>, ProjFault>
-    requires { option_map_or (within 1 1) (get_member (codes "version") (table_view top.now.table.now)) false ≡ true }
-    ensures answer { Answers Memory (fields_duty top.now.place top_fields (table_view top.now.table.now)) result }
+    requires { option_map_or (is_number_within 1 1) (get_member (codes "version") (table_view top.now.table.now)) false ≡ true }
+    ensures answer { Answers Memory (fields_duty top.now.table_at top_fields (table_view top.now.table.now)) result }
     ensures room { IfOk result (λ r. table_view r.room.now ≡ room_in (table_view top.now.table.now)) }
     ensures solver { IfOk result (λ r. table_view r.solver.now ≡ solver_in (table_view top.now.table.now)) }
-    ensures luminaires { IfOk result (λ r. listed (items_view r.luminaires.now) ≡ luminaires_in (table_view top.now.table.now)) }
+    ensures luminaires { IfOk result (λ r. toml_items (items_view r.luminaires.now) ≡ luminaires_in (table_view top.now.table.now)) }
     ensures few { IfOk result (λ r. length r.luminaires.now ≤ 256) }
-    ensures tables { IfOk result (λ r. list_all (is_kind tables) (listed (items_view r.luminaires.now)) ≡ true) }
+    ensures tables { IfOk result (λ r. list_all (is_kind tables) (toml_items (items_view r.luminaires.now)) ≡ true) }
 {
     let room = top.table("room")?;
     let solver = top.table("solver")?;
@@ -122,21 +122,21 @@ fn read_top_fields<'a>(top: &Section<'a>) -> Result<Top<'a>, ProjFault>
 // The room.
 #[tactic(auto, using(duties::proofs::Orders::steps), unfolding(crate::specs::FieldDuties::table_duty))]
 fn read_room(alloc: Global, table: &Table) -> Result<RoomSpec, ProjFault>
-    ensures answer { Answers Memory (table_duty places.Room (table_view table.now)) result }
+    ensures answer { Answers Memory (table_duty table_at.Room (table_view table.now)) result }
     ensures value { IfOk result (λ room. room ≡ room_of (table_view table.now)) }
 {
     let room = Section {
         alloc,
-        place: Place::Room,
+        table_at: TableAt::Room,
         table,
     };
-    room.keys()?;
+    room.check_keys()?;
     read_room_fields(&room)
 }
 
 #[tactic(auto, using(duties::proofs::Orders::steps), unfolding(crate::specs::FieldDuties::fields_duty, crate::specs::Projects::room_of))]
 fn read_room_fields(room: &Section) -> Result<RoomSpec, ProjFault>
-    ensures answer { Answers Memory (fields_duty room.now.place room_fields (table_view room.now.table.now)) result }
+    ensures answer { Answers Memory (fields_duty room.now.table_at room_fields (table_view room.now.table.now)) result }
     ensures value { IfOk result (λ r. r ≡ room_of (table_view room.now.table.now)) }
 {
     let width = room.small("width")?;
@@ -162,16 +162,16 @@ fn read_room_fields(room: &Section) -> Result<RoomSpec, ProjFault>
 // The solver's threshold.
 #[tactic(auto, using(duties::proofs::Orders::steps), unfolding(crate::specs::FieldDuties::table_duty, crate::specs::FieldDuties::fields_duty))]
 fn read_threshold(alloc: Global, table: &Table) -> Result<u64, ProjFault>
-    ensures answer { Answers Memory (table_duty places.Solver (table_view table.now)) result }
-    ensures value { IfOk result (λ n. n ≡ number_of (get_member (codes "threshold") (table_view table.now))) }
+    ensures answer { Answers Memory (table_duty table_at.Solver (table_view table.now)) result }
+    ensures value { IfOk result (λ n. n ≡ toml_number (get_member (codes "threshold") (table_view table.now))) }
     ensures some { IfOk result (λ n. 1 ≤ n) }
     ensures low { IfOk result (λ n. n ≤ 10 ^ 16) }
 {
     let solver = Section {
         alloc,
-        place: Place::Solver,
+        table_at: TableAt::Solver,
         table,
     };
-    solver.keys()?;
+    solver.check_keys()?;
     solver.number("threshold", 1, MOST_THRESHOLD)
 }

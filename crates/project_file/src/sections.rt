@@ -11,22 +11,22 @@ ghost use Rattle.toml.specs.Data.{get_member, as_integer, as_table};
 ghost use Rattle.toml.specs.View.{view, items_view, table_view};
 ghost use Rattle.lux_io.specs.Names.{IsName};
 ghost use Rattle.project_file.specs.declared.faults.ProjFault.TheVariants as fault;
-ghost use Rattle.project_file.specs.Names.{prefix, cut, written, fault_name};
-ghost use Rattle.project_file.specs.FieldDuties.{keys, first_key, keys_duty, field_duty};
+ghost use Rattle.project_file.specs.Names.{prefix, fitting_front, or_quotation_marks, fault_name};
+ghost use Rattle.project_file.specs.FieldDuties.{member_keys, first_key, keys_duty, field_duty};
 ghost use Rattle.project_file.specs.Tables.{fields_of};
-ghost use Rattle.project_file.specs.Fields.{listed, required_field, optional_field, number as numbers, text as texts, table as tables, list, within, bytes_within, exactly, at_most, any, number_of, text_of, table_of, list_of, is_kind};
+ghost use Rattle.project_file.specs.Fields.{toml_items, required_field, optional_field, number as numbers, text as texts, table as tables, list, is_number_within, is_text_within, has_exactly, has_at_most, is_any_value, toml_number, toml_text, toml_table, toml_list, is_kind};
 
 use crate::ProjFault;
-use crate::places::Place;
+use crate::tables::TableAt;
 use lux_io::{Name, NameFault};
 use std::alloc::{AllocError, Global};
 use toml::{Table, Value};
 
-/// A table of a project file, and its place there.
+/// A table of a project file, and which one it is.
 #[derive(Clone, Copy)]
 pub struct Section<'a> {
     pub alloc: Global,
-    pub place: Place,
+    pub table_at: TableAt,
     pub table: &'a Table,
 }
 
@@ -39,7 +39,7 @@ fn luminaire_path(alloc: Global, number: usize, key: &str) -> Result<String, All
 
 // The name that a path is written as.
 fn name_of(alloc: Global, path: &str) -> Result<Name, AllocError>
-    ensures { IfOk result (λ name. name ≡ written (cut path.now)) }
+    ensures { IfOk result (λ name. name ≡ or_quotation_marks (fitting_front path.now)) }
 {
     let cut = &path[..path.floor_char_boundary(255)];
     match Name::new(alloc, or_quotation_marks(cut)) {
@@ -51,7 +51,7 @@ fn name_of(alloc: Global, path: &str) -> Result<Name, AllocError>
 
 fn or_quotation_marks(text: &str) -> &str
     requires { length text.now ≤ 255 }
-    ensures value { result.now ≡ written text.now }
+    ensures value { result.now ≡ or_quotation_marks text.now }
     ensures some { 1 ≤ length result.now }
     ensures few { length result.now ≤ 255 }
 {
@@ -69,20 +69,20 @@ impl<'a> Section<'a> {
 
     // The path to a field.
     fn path(&self, key: &str) -> Result<String, AllocError>
-        ensures { IfOk result (λ path. string_bytes path ≡ prefix self.now.place ++ key.now) }
+        ensures { IfOk result (λ path. string_bytes path ≡ prefix self.now.table_at ++ key.now) }
     {
-        match self.place {
-            Place::Top => String::from_str(self.alloc, key),
-            Place::Room => format!(in self.alloc; "room.{key}"),
-            Place::Solver => format!(in self.alloc; "solver.{key}"),
-            Place::Luminaire(number) => luminaire_path(self.alloc, number, key),
+        match self.table_at {
+            TableAt::Top => String::from_str(self.alloc, key),
+            TableAt::Room => format!(in self.alloc; "room.{key}"),
+            TableAt::Solver => format!(in self.alloc; "solver.{key}"),
+            TableAt::Luminaire(number) => luminaire_path(self.alloc, number, key),
         }
     }
 
     // The name of a field.
     #[tactic(auto, unfolding(crate::specs::Names::fault_name))]
     fn name(&self, key: &str) -> Result<Name, ProjFault>
-        ensures name { IfOk result (λ name. name ≡ fault_name self.now.place key.now) }
+        ensures name { IfOk result (λ name. name ≡ fault_name self.now.table_at key.now) }
         ensures memory { IfErr result (λ f. f ≡ fault.Memory) }
     {
         let path = self.path(key)?;
@@ -91,7 +91,7 @@ impl<'a> Section<'a> {
 
     /// Whether the version stands in the table, and is 1.
     pub fn is_version_one(&self) -> bool
-        ensures { result ≡ option_map_or (within 1 1) (get_member (codes "version") (table_view self.now.table.now)) false }
+        ensures { result ≡ option_map_or (is_number_within 1 1) (get_member (codes "version") (table_view self.now.table.now)) false }
     {
         match self.get("version") {
             Some(value) => value.as_integer() == Some(1),
@@ -101,28 +101,28 @@ impl<'a> Section<'a> {
 
     /// That each key of the table is one of its fields.
     #[tactic(auto, using(crate::proofs::Keys::first_of_keys), unfolding(crate::specs::FieldDuties::keys_duty))]
-    pub fn keys(&self) -> Result<(), ProjFault>
-        ensures { Answers fault.Memory (keys_duty self.now.place (table_view self.now.table.now)) result }
+    pub fn check_keys(&self) -> Result<(), ProjFault>
+        ensures { Answers fault.Memory (keys_duty self.now.table_at (table_view self.now.table.now)) result }
     {
-        match self.first_unknown() {
-            Some(key) => Err(self.unknown(key.as_str())),
+        match self.first_unknown_key() {
+            Some(key) => Err(self.key_fault(key.as_str())),
             None => Ok(()),
         }
     }
 
     // The first key that is no field of the table. The keys stand in the order of their bytes.
-    fn first_unknown(&self) -> Option<&'a String>
-        ensures first { option_copied result ≡ find (λ key. not (list_any (λ f. bytes_eq (string_bytes key) f.name) (fields_of self.now.place))) (tree.keys self.now.table.now) }
+    fn first_unknown_key(&self) -> Option<&'a String>
+        ensures first { option_copied result ≡ find (λ key. not (list_any (λ f. bytes_eq (string_bytes key) f.name) (fields_of self.now.table_at))) (tree.keys self.now.table.now) }
         ensures ordered { tree.IsOrdered string_cmp self.now.table.now }
     {
         self.table
             .keys()
-            .find(|key| !self.place.has_field(key.as_str()))
+            .find(|key| !self.table_at.has_field(key.as_str()))
     }
 
     // That a key is no field of the table.
-    fn unknown(&self, key: &str) -> ProjFault
-        ensures { result ≢ fault.Memory → result ≡ fault.Key (fault_name self.now.place key.now) }
+    fn key_fault(&self, key: &str) -> ProjFault
+        ensures { result ≢ fault.Memory → result ≡ fault.Key (fault_name self.now.table_at key.now) }
     {
         match self.name(key) {
             Ok(name) => ProjFault::Key { name },
@@ -130,8 +130,9 @@ impl<'a> Section<'a> {
         }
     }
 
-    fn missing(&self, key: &str) -> ProjFault
-        ensures { result ≢ fault.Memory → result ≡ fault.Missing (fault_name self.now.place key.now) }
+    // That a field is absent.
+    fn missing_fault(&self, key: &str) -> ProjFault
+        ensures { result ≢ fault.Memory → result ≡ fault.Missing (fault_name self.now.table_at key.now) }
     {
         match self.name(key) {
             Ok(name) => ProjFault::Missing { name },
@@ -139,8 +140,9 @@ impl<'a> Section<'a> {
         }
     }
 
-    fn of_another_kind(&self, key: &str) -> ProjFault
-        ensures { result ≢ fault.Memory → result ≡ fault.Kind (fault_name self.now.place key.now) }
+    // That a field is of another kind.
+    fn kind_fault(&self, key: &str) -> ProjFault
+        ensures { result ≢ fault.Memory → result ≡ fault.Kind (fault_name self.now.table_at key.now) }
     {
         match self.name(key) {
             Ok(name) => ProjFault::Kind { name },
@@ -149,8 +151,8 @@ impl<'a> Section<'a> {
     }
 
     /// That a field is out of its range.
-    pub fn out_of_range(&self, key: &str) -> ProjFault
-        ensures { result ≢ fault.Memory → result ≡ fault.Range (fault_name self.now.place key.now) }
+    pub fn range_fault(&self, key: &str) -> ProjFault
+        ensures { result ≢ fault.Memory → result ≡ fault.Range (fault_name self.now.table_at key.now) }
     {
         match self.name(key) {
             Ok(name) => ProjFault::Range { name },
@@ -161,27 +163,27 @@ impl<'a> Section<'a> {
     /// The number of a field.
     #[tactic(auto, unfolding(crate::specs::FieldDuties::field_duty, duties::specs::Duties::unless, duties::specs::Duties::first))]
     pub fn number(&self, key: &str, least: u64, greatest: u64) -> Result<u64, ProjFault>
-        ensures answer { Answers fault.Memory (field_duty self.now.place (table_view self.now.table.now) (required_field key.now numbers (within least greatest))) result }
-        ensures value { IfOk result (λ n. n ≡ number_of (get_member key.now (table_view self.now.table.now))) }
+        ensures answer { Answers fault.Memory (field_duty self.now.table_at (table_view self.now.table.now) (required_field key.now numbers (is_number_within least greatest))) result }
+        ensures value { IfOk result (λ n. n ≡ toml_number (get_member key.now (table_view self.now.table.now))) }
         ensures least { IfOk result (λ n. least ≤ n) }
         ensures greatest { IfOk result (λ n. n ≤ greatest) }
     {
         let Some(value) = self.get(key) else {
-            return Err(self.missing(key));
+            return Err(self.missing_fault(key));
         };
         let Some(number) = value.as_integer() else {
-            return Err(self.of_another_kind(key));
+            return Err(self.kind_fault(key));
         };
         match u64::try_from(number) {
             Ok(number) if least <= number && number <= greatest => Ok(number),
-            _ => Err(self.out_of_range(key)),
+            _ => Err(self.range_fault(key)),
         }
     }
 
     /// The number of a field, in 32 bits.
     pub fn small(&self, key: &str) -> Result<u32, ProjFault>
-        ensures answer { Answers fault.Memory (field_duty self.now.place (table_view self.now.table.now) (required_field key.now numbers (within 0 (2 ^ 32 - 1)))) result }
-        ensures value { IfOk result (λ n. n ≡ number_of (get_member key.now (table_view self.now.table.now))) }
+        ensures answer { Answers fault.Memory (field_duty self.now.table_at (table_view self.now.table.now) (required_field key.now numbers (is_number_within 0 (2 ^ 32 - 1)))) result }
+        ensures value { IfOk result (λ n. n ≡ toml_number (get_member key.now (table_view self.now.table.now))) }
     {
         Ok(self.number(key, 0, 4_294_967_295)? as u32)
     }
@@ -189,18 +191,18 @@ impl<'a> Section<'a> {
     /// The text of a field, of 1 to 255 bytes.
     #[tactic(auto, unfolding(crate::specs::FieldDuties::field_duty, duties::specs::Duties::unless, duties::specs::Duties::first))]
     pub fn text(&self, key: &str) -> Result<&'a str, ProjFault>
-        ensures answer { Answers fault.Memory (field_duty self.now.place (table_view self.now.table.now) (required_field key.now texts (bytes_within 1 255))) result }
-        ensures value { IfOk result (λ text. text.now ≡ text_of (get_member key.now (table_view self.now.table.now))) }
+        ensures answer { Answers fault.Memory (field_duty self.now.table_at (table_view self.now.table.now) (required_field key.now texts (is_text_within 1 255))) result }
+        ensures value { IfOk result (λ text. text.now ≡ toml_text (get_member key.now (table_view self.now.table.now))) }
         ensures named { IfOk result (λ text. IsName text.now) }
     {
         let Some(value) = self.get(key) else {
-            return Err(self.missing(key));
+            return Err(self.missing_fault(key));
         };
         let Some(text) = value.as_str() else {
-            return Err(self.of_another_kind(key));
+            return Err(self.kind_fault(key));
         };
         if text.is_empty() || text.len() > 255 {
-            return Err(self.out_of_range(key));
+            return Err(self.range_fault(key));
         }
         Ok(text)
     }
@@ -208,60 +210,60 @@ impl<'a> Section<'a> {
     /// The table of a field.
     #[tactic(auto, unfolding(crate::specs::FieldDuties::field_duty, duties::specs::Duties::unless, duties::specs::Duties::first))]
     pub fn table(&self, key: &str) -> Result<&'a Table, ProjFault>
-        ensures answer { Answers fault.Memory (field_duty self.now.place (table_view self.now.table.now) (required_field key.now tables any)) result }
-        ensures value { IfOk result (λ t. table_view t.now ≡ table_of (get_member key.now (table_view self.now.table.now))) }
+        ensures answer { Answers fault.Memory (field_duty self.now.table_at (table_view self.now.table.now) (required_field key.now tables is_any_value)) result }
+        ensures value { IfOk result (λ t. table_view t.now ≡ toml_table (get_member key.now (table_view self.now.table.now))) }
     {
         let Some(value) = self.get(key) else {
-            return Err(self.missing(key));
+            return Err(self.missing_fault(key));
         };
         match value.as_table() {
             Some(table) => Ok(table),
-            None => Err(self.of_another_kind(key)),
+            None => Err(self.kind_fault(key)),
         }
     }
 
     /// The three numbers of a field, each in 32 bits.
     #[tactic(auto, using(crate::proofs::Lists::lists), unfolding(crate::specs::FieldDuties::field_duty, duties::specs::Duties::unless, duties::specs::Duties::first))]
     pub fn three(&self, key: &str) -> Result<(u32, u32, u32), ProjFault>
-        ensures answer { Answers fault.Memory (field_duty self.now.place (table_view self.now.table.now) (required_field key.now (list numbers) (exactly 3 (within 0 (2 ^ 32 - 1))))) result }
-        ensures first { IfOk result (λ n. n.0 ≡ number_of (slice_get (list_of (get_member key.now (table_view self.now.table.now))) 0)) }
-        ensures second { IfOk result (λ n. n.1 ≡ number_of (slice_get (list_of (get_member key.now (table_view self.now.table.now))) 1)) }
-        ensures third { IfOk result (λ n. n.2 ≡ number_of (slice_get (list_of (get_member key.now (table_view self.now.table.now))) 2)) }
+        ensures answer { Answers fault.Memory (field_duty self.now.table_at (table_view self.now.table.now) (required_field key.now (list numbers) (has_exactly 3 (is_number_within 0 (2 ^ 32 - 1))))) result }
+        ensures first { IfOk result (λ n. n.0 ≡ toml_number (slice_get (toml_list (get_member key.now (table_view self.now.table.now))) 0)) }
+        ensures second { IfOk result (λ n. n.1 ≡ toml_number (slice_get (toml_list (get_member key.now (table_view self.now.table.now))) 1)) }
+        ensures third { IfOk result (λ n. n.2 ≡ toml_number (slice_get (toml_list (get_member key.now (table_view self.now.table.now))) 2)) }
     {
         let Some(value) = self.get(key) else {
-            return Err(self.missing(key));
+            return Err(self.missing_fault(key));
         };
         let Some(items) = value.as_array() else {
-            return Err(self.of_another_kind(key));
+            return Err(self.kind_fault(key));
         };
         if !all_numbers(items) {
-            return Err(self.of_another_kind(key));
+            return Err(self.kind_fault(key));
         }
         match three_of(items) {
             Some(three) => Ok(three),
-            None => Err(self.out_of_range(key)),
+            None => Err(self.range_fault(key)),
         }
     }
 
     /// The tables of a field, at most so many, and none where it is absent.
     #[tactic(auto, using(crate::proofs::Lists::lists), unfolding(crate::specs::FieldDuties::field_duty, duties::specs::Duties::unless, duties::specs::Duties::first))]
     pub fn tables(&self, key: &str, most: usize) -> Result<&'a [Value], ProjFault>
-        ensures answer { Answers fault.Memory (field_duty self.now.place (table_view self.now.table.now) (optional_field key.now (list tables) (at_most most))) result }
-        ensures value { IfOk result (λ items. listed (items_view items.now) ≡ list_of (get_member key.now (table_view self.now.table.now))) }
+        ensures answer { Answers fault.Memory (field_duty self.now.table_at (table_view self.now.table.now) (optional_field key.now (list tables) (has_at_most most))) result }
+        ensures value { IfOk result (λ items. toml_items (items_view items.now) ≡ toml_list (get_member key.now (table_view self.now.table.now))) }
         ensures few { IfOk result (λ items. length items.now ≤ most) }
-        ensures tables { IfOk result (λ items. list_all (is_kind tables) (listed (items_view items.now)) ≡ true) }
+        ensures tables { IfOk result (λ items. list_all (is_kind tables) (toml_items (items_view items.now)) ≡ true) }
     {
         let Some(value) = self.get(key) else {
             return Ok(&[]);
         };
         let Some(items) = value.as_array() else {
-            return Err(self.of_another_kind(key));
+            return Err(self.kind_fault(key));
         };
         if !all_tables(items) {
-            return Err(self.of_another_kind(key));
+            return Err(self.kind_fault(key));
         }
         if items.len() > most {
-            return Err(self.out_of_range(key));
+            return Err(self.range_fault(key));
         }
         Ok(items)
     }
@@ -284,11 +286,11 @@ fn all_tables(items: &[Value]) -> bool
 // The three numbers of a list, where it has three, each of 32 bits.
 #[tactic(auto, using(crate::proofs::Lists::lists, std::proofs::lemmas::Bool::Decides::nat_tests))]
 fn three_of(items: &[Value]) -> Option<(u32, u32, u32)>
-    ensures none { IfNone result (((length (listed (items_view items.now)) == 3) && list_all (within 0 (2 ^ 32 - 1)) (listed (items_view items.now))) ≡ false) }
-    ensures some { IfSome result (λ _. ((length (listed (items_view items.now)) == 3) && list_all (within 0 (2 ^ 32 - 1)) (listed (items_view items.now))) ≡ true) }
-    ensures first { IfSome result (λ n. n.0 ≡ number_of (slice_get (listed (items_view items.now)) 0)) }
-    ensures second { IfSome result (λ n. n.1 ≡ number_of (slice_get (listed (items_view items.now)) 1)) }
-    ensures third { IfSome result (λ n. n.2 ≡ number_of (slice_get (listed (items_view items.now)) 2)) }
+    ensures none { IfNone result (((length (toml_items (items_view items.now)) == 3) && list_all (is_number_within 0 (2 ^ 32 - 1)) (toml_items (items_view items.now))) ≡ false) }
+    ensures some { IfSome result (λ _. ((length (toml_items (items_view items.now)) == 3) && list_all (is_number_within 0 (2 ^ 32 - 1)) (toml_items (items_view items.now))) ≡ true) }
+    ensures first { IfSome result (λ n. n.0 ≡ toml_number (slice_get (toml_items (items_view items.now)) 0)) }
+    ensures second { IfSome result (λ n. n.1 ≡ toml_number (slice_get (toml_items (items_view items.now)) 1)) }
+    ensures third { IfSome result (λ n. n.2 ≡ toml_number (slice_get (toml_items (items_view items.now)) 2)) }
 {
     if items.len() != 3 {
         return None;
@@ -301,7 +303,7 @@ fn three_of(items: &[Value]) -> Option<(u32, u32, u32)>
 
 // The number of a value, where it has 32 bits.
 fn small_of(value: &Value) -> Option<u32>
-    ensures { result ≡ (if within 0 (2 ^ 32 - 1) (view value.now) then Some (number_of (Some (view value.now))) else None) }
+    ensures { result ≡ (if is_number_within 0 (2 ^ 32 - 1) (view value.now) then Some (toml_number (Some (view value.now))) else None) }
 {
     match u32::try_from(value.as_integer()?) {
         Ok(number) => Some(number),

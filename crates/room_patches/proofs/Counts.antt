@@ -7,7 +7,7 @@ use Rattle.room_patches.specs.declared.spec.RoomSpec.{RoomSpec}
 use Rattle.room_patches.specs.declared.patch.Patch.{Patch}
 use Rattle.room_patches.specs.declared.surface.Surface.{Surface}
 use Rattle.room_patches.specs.declared.surface.Surface.TheVariants.{Floor, Ceiling, Left, Right, Front, Back}
-use Rattle.room_patches.specs.Patches.{across, upward, patch_at, row_of, patches_of, patches}
+use Rattle.room_patches.specs.Patches.{across, upward, patch_at, patch_row, patches_of, patches}
 use Rattle.room_patches.specs.Validity.{IsRoom}
 
 -- rows of one length
@@ -16,9 +16,9 @@ length-rows f w a zero each = omega arith
 length-rows f w a (suc n) each = omega (arith, length-append (f a) (flat_map f (range_with_len (a + 1) n)), each a, length-rows f w (a + 1) n each)
 
 length-surface : (room : RoomSpec) (surface : Surface) → length (patches_of room surface) ≡ (upward room surface).parts * (across room surface).parts
-unfolding patches_of row_of
+unfolding patches_of patch_row
 length-surface room surface =
-    length-rows (row_of room surface) (across room surface).parts 0 (upward room surface).parts
+    length-rows (patch_row room surface) (across room surface).parts 0 (upward room surface).parts
     (λ row. length-map-range_with_len (λ column. patch_at room surface column row) 0 (across room surface).parts)
 
 pub length-patches : (room : RoomSpec) → length (patches room) ≡ 2 * (room.nx * room.ny + room.ny * room.nz + room.nx * room.nz)

@@ -16,12 +16,12 @@ on-axis place (suc zero) valid h = valid.y
 on-axis place (suc (suc zero)) valid h = valid.z
 on-axis place (suc (suc (suc n))) valid h = absurd (omega arith)
 
--- coordinates as the program holds them
-held : (a b : ℤ) (r : ℕ) → IsCoordinate a → IsCoordinate b → r ≡ unsigned_abs (to_z w32 (of_z w32 b) -ℤ to_z w32 (of_z w32 a)) → r ≡ unsigned_abs (b -ℤ a)
-held a b r ha hb e = let la = ha.low in let ua = ha.high in let lb = hb.low in let ub = hb.high in omega (arith, ints)
+-- how far apart coordinates lie, as the program computes it
+words_apart : (a b : ℤ) (r : ℕ) → IsCoordinate a → IsCoordinate b → r ≡ unsigned_abs (to_z w32 (of_z w32 b) -ℤ to_z w32 (of_z w32 a)) → r ≡ unsigned_abs (b -ℤ a)
+words_apart a b r ha hb e = let la = ha.low in let ua = ha.high in let lb = hb.low in let ub = hb.high in omega (arith, ints)
 
-pub gap-held : (from to : List ℤ) (axis r : ℕ) → IsPlace from → IsPlace to → axis ≤ 2 → r ≡ unsigned_abs (to_z w32 (of_z w32 (coordinate to axis)) -ℤ to_z w32 (of_z w32 (coordinate from axis))) → r ≡ gap from to axis
-gap-held from to axis r hf ht h e = held (coordinate from axis) (coordinate to axis) r (on-axis from axis hf h) (on-axis to axis ht h) e
+pub gap-by_words : (from to : List ℤ) (axis r : ℕ) → IsPlace from → IsPlace to → axis ≤ 2 → r ≡ unsigned_abs (to_z w32 (of_z w32 (coordinate to axis)) -ℤ to_z w32 (of_z w32 (coordinate from axis))) → r ≡ gap from to axis
+gap-by_words from to axis r hf ht h e = words_apart (coordinate from axis) (coordinate to axis) r (on-axis from axis hf h) (on-axis to axis ht h) e
 
 -- two places lie at most 200,000 half-millimetres apart along an axis
 pub gap-le : (from to : List ℤ) (axis : ℕ) → IsPlace from → IsPlace to → axis ≤ 2 → gap from to axis ≤ 200000

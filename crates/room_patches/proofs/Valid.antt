@@ -10,7 +10,7 @@ use Rattle.room_patches.specs.declared.surface.Surface.{Surface}
 use Rattle.room_patches.specs.declared.surface.Surface.TheVariants.{Floor, Ceiling, Left, Right, Front, Back}
 use Rattle.room_patches.specs.Cuts.{IsCut}
 use Rattle.room_patches.specs.Places.{IsCoordinate, IsPlace}
-use Rattle.room_patches.specs.Patches.{IsPatch, across, upward, place_on, axis_of, reflectance_of, patch_at, row_of, patches_of, patches}
+use Rattle.room_patches.specs.Patches.{IsPatch, across, upward, place_on, axis_of, reflectance_of, patch_at, patch_row, patches_of, patches}
 use Rattle.room_patches.specs.Validity.{IsRoom}
 use Rattle.room_patches.proofs.Bounds.{part-some, part-le, middle-le}
 
@@ -88,9 +88,9 @@ module _ (room : RoomSpec) (valid : IsRoom room) where
       }
 
   surface-valid : (surface : Surface) → All IsPatch (patches_of room surface)
-  unfolding patches_of row_of
+  unfolding patches_of patch_row
   surface-valid surface =
-      all-lists IsPatch (row_of room surface) 0 (upward room surface).parts (upward room surface).parts (omega arith)
+      all-lists IsPatch (patch_row room surface) 0 (upward room surface).parts (upward room surface).parts (omega arith)
       (λ row in_surface. all-values IsPatch (λ column. patch_at room surface column row) 0 (across room surface).parts (across room surface).parts (omega arith)
       (λ column in_row. patch-valid surface column row in_row in_surface))
 

@@ -83,12 +83,12 @@ patch_at room surface column row = record {
 }
 
 -- one row of a surface
-unfoldable pub row_of : RoomSpec → Surface → ℕ → List Patch
-row_of room surface row = map (λ column. patch_at room surface column row) (range_with_len 0 (across room surface).parts)
+unfoldable pub patch_row : RoomSpec → Surface → ℕ → List Patch
+patch_row room surface row = map (λ column. patch_at room surface column row) (range_with_len 0 (across room surface).parts)
 
 -- a surface, row by row
 unfoldable pub patches_of : RoomSpec → Surface → List Patch
-patches_of room surface = flat_map (row_of room surface) (range_with_len 0 (upward room surface).parts)
+patches_of room surface = flat_map (patch_row room surface) (range_with_len 0 (upward room surface).parts)
 
 -- all patches, surface by surface
 unfoldable pub patches : RoomSpec → List Patch

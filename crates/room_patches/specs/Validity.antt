@@ -1,8 +1,7 @@
 -- What makes a room valid. The limits are this project's own.
-use Rattle.std.specs.Prelude.{◌≡◌, ℕ, ◌≤◌, ◌&&◌, Bool, nat_le, List, [], ◌∷◌, length}
+use Rattle.std.specs.Prelude.{ℕ, ◌≤◌, ◌&&◌, Bool, nat_le, List, [], ◌∷◌, length}
 use Rattle.duties.specs.Duties.{Duty, unless}
 use Rattle.room_patches.specs.declared.spec.RoomSpec.{RoomSpec}
-use Rattle.room_patches.specs.declared.patch.Patch.{Patch}
 use Rattle.room_patches.specs.declared.faults.RoomFault.{RoomFault}
 use Rattle.room_patches.specs.declared.faults.RoomFault.TheVariants.{Size, Counts, Patches, Reflectance}
 use Rattle.room_patches.specs.Cuts.{IsCut}
@@ -44,8 +43,3 @@ room_duties room =
     ∷ unless (nat_le (length (patches room)) 1024) (Patches (length (patches room)))
     ∷ unless (has_reflectances room) Reflectance
     ∷ []
-
--- a valid room, and its patches as they are held
-pub record IsHeld (room : RoomSpec) (held : List Patch) : Type 0 where
-  pub valid : IsRoom room
-  pub all : held ≡ patches room

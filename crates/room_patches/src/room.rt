@@ -1,7 +1,7 @@
 // A valid room.
 ghost use Rattle.std.specs.Prelude.{◌≡◌, ◌<◌, ◌≤◌, ◌++◌, Some, IfOk, OnOk, All, length, slice_get};
 ghost use Rattle.duties.specs.Duties.{first, Answers};
-ghost use Rattle.room_patches.specs.Patches.{patches, patches_of, row_of, upward, IsPatch};
+ghost use Rattle.room_patches.specs.Patches.{patches, patches_of, patch_row, upward, IsPatch};
 ghost use Rattle.room_patches.specs.Validity.{IsRoom, room_duties};
 
 use crate::checks::{patch_count, room_fault};
@@ -19,13 +19,13 @@ pub struct Room {
 
 impl Model for Room {
     ghost use Rattle.room_patches.specs.declared.spec.RoomSpec.{RoomSpec};
-    ghost use Rattle.room_patches.specs.Validity.{IsHeld};
+    ghost use Rattle.room_patches.specs.Shapes.{IsRoomWithPatches};
 
     ghost Value = { RoomSpec };
 
     ghost view = { λ r. r.spec };
 
-    ghost invariant = { λ r. IsHeld r.spec r.patches.items };
+    ghost invariant = { λ r. IsRoomWithPatches r.spec r.patches.items };
 }
 
 impl Room {
@@ -107,7 +107,7 @@ fn add_surface(all: &mut Vec<Patch>, room: RoomSpec, surface: Surface) -> Result
 }
 
 // Appends one row of a surface.
-#[tactic(auto, using(crate::proofs::Rows::steps), unfolding(crate::specs::Patches::row_of))]
+#[tactic(auto, using(crate::proofs::Rows::steps), unfolding(crate::specs::Patches::patch_row))]
 fn add_row(
     all: &mut Vec<Patch>,
     room: RoomSpec,
@@ -116,7 +116,7 @@ fn add_row(
 ) -> Result<(), AllocError>
     requires room { IsRoom room }
     requires row { row < (upward room surface).parts }
-    ensures { OnOk result (all.new.items ≡ all.old.items ++ row_of room surface row) }
+    ensures { OnOk result (all.new.items ≡ all.old.items ++ patch_row room surface row) }
 {
     for column in 0..surface.across(room).parts {
         all.push(surface.patch_at(room, column, row))?;

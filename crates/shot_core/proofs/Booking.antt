@@ -1,19 +1,19 @@
 -- What a patch's row of shares gives, and what a shot passes on by it.
 use Rattle.std.proofs.Common.{◌≡◌, ℕ, ◌+◌, ◌*◌, ◌/◌, ◌%◌, ◌^◌, ◌<◌, ◌≤◌, List, map, length, get_or, set, length-set, ap, ◌∙◌, arith}
 use Rattle.std.specs.List.{range_with_len}
-use Rattle.flux_system.specs.System.{FluxSystem, scale, patches, share, row_of, coefficient}
+use Rattle.flux_system.specs.System.{FluxSystem, scale, patches, share, share_row, coefficient}
 use Rattle.flux_system.specs.Validity.{IsSystem}
 use Rattle.flux_system.proofs.Sums.{le-sum}
 use Rattle.flux_ledger.specs.declared.ledger.Ledger.{Ledger}
 use Rattle.shot_core.specs.Shots.{shot, parts_after, amounts_passed}
-use Rattle.shot_core.proofs.Listed.{listed-at, listed-length, listed-same}
+use Rattle.shot_core.proofs.Lists.{list-at, list-length, list-same}
 
-module _ (s : FluxSystem) (i : ℕ) (row : List ℕ) (row_is : row ≡ row_of s i) where
+module _ (s : FluxSystem) (i : ℕ) (row : List ℕ) (row_is : row ≡ share_row s i) where
   pub row_length : length row ≡ patches s
-  row_length = ap length row_is ∙ listed-length (share s i) (patches s)
+  row_length = ap length row_is ∙ list-length (share s i) (patches s)
 
   pub row_at : (j : ℕ) → j < patches s → get_or row j 0 ≡ share s i j
-  row_at j h = ap (λ (xs : List ℕ). get_or xs j 0) row_is ∙ listed-at (share s i) (patches s) j h
+  row_at j h = ap (λ (xs : List ℕ). get_or xs j 0) row_is ∙ list-at (share s i) (patches s) j h
 
   pub share-lt : IsSystem s → i < patches s → (j : ℕ) → j < patches s → get_or row j 0 < 1000000000
   share-lt valid inside j h =
@@ -39,17 +39,17 @@ module _ (s : FluxSystem) (l : Ledger) (i t : ℕ) (left amounts : List ℕ) (lo
   given_at : (j : ℕ) → j < patches s → get_or left j 0 + get_or amounts j 0 ≡ get_or (set l.residual i 0) j 0 + parts_after s i (get_or l.residual i 0) l.err j / scale
   given_at j h =
       (λ k. get_or (left_is k) j 0 + get_or (amounts_is k) j 0)
-      ∙ (ap (λ (x : ℕ). get_or (set l.residual i 0) j 0 + x) (listed-at (λ m. parts_after s i t l.err m / scale) (patches s) j h)
+      ∙ (ap (λ (x : ℕ). get_or (set l.residual i 0) j 0 + x) (list-at (λ m. parts_after s i t l.err m / scale) (patches s) j h)
       ∙ ap (λ (x : ℕ). get_or (set l.residual i 0) j 0 + parts_after s i x l.err j / scale) t_is)
 
   pub given_is : map (λ j. get_or left j 0 + get_or amounts j 0) (range_with_len 0 (length left)) ≡ (shot s l i).residual
-  given_is = ap (λ (n : ℕ). map (λ j. get_or left j 0 + get_or amounts j 0) (range_with_len 0 n)) left_length ∙ listed-same _ _ (patches s) given_at
+  given_is = ap (λ (n : ℕ). map (λ j. get_or left j 0 + get_or amounts j 0) (range_with_len 0 n)) left_length ∙ list-same _ _ (patches s) given_at
 
   pub given_fits : ((j : ℕ) → j < patches s → get_or (shot s l i).residual j 0 ≤ 10000000000000000) → (j : ℕ) → j < length left → get_or left j 0 + get_or amounts j 0 < 2 ^ 64
   given_fits bound j h =
       let same = left_length in
       let inside : j < patches s = omega arith in
       let at = given_at j inside in
-      let listed = listed-at (λ m. get_or (set l.residual i 0) m 0 + parts_after s i (get_or l.residual i 0) l.err m / scale) (patches s) j inside in
+      let listed = list-at (λ m. get_or (set l.residual i 0) m 0 + parts_after s i (get_or l.residual i 0) l.err m / scale) (patches s) j inside in
       let le = bound j inside in
       omega arith

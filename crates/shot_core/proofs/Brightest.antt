@@ -4,7 +4,7 @@ use Rattle.std.specs.List.{fold, position, position_or_len}
 use Rattle.std.specs.Prelude.{unwrap_or}
 use Rattle.std.proofs.lemmas.Bool.{eq-eqb, ne_eqb, lt-ltb, cond-true}
 use Rattle.std.proofs.lemmas.List.Sums.{position_or_len_is}
-use Rattle.shot_core.specs.Settling.{greatest, brightest}
+use Rattle.shot_core.specs.Settling.{greatest_value, brightest_patch}
 
 start_below : (xs : List ℕ) (a : ℕ) → a ≤ fold max a xs
 start_below [] a = omega arith
@@ -20,12 +20,12 @@ all_below [] a m h each = h
 all_below (x ∷ xs) a m h each = let first = each 0 (omega arith) in all_below xs (max a x) m (omega arith) (λ k l. each (suc k) (omega arith))
 
 -- the place whose value no other exceeds, and all before are below
-pub brightest-is : (xs : List ℕ) (b : ℕ) → b < length xs → ((k : ℕ) → k < length xs → get_or xs k 0 ≤ get_or xs b 0) → ((k : ℕ) → k < b → get_or xs k 0 < get_or xs b 0) → b ≡ brightest xs
+pub brightest-is : (xs : List ℕ) (b : ℕ) → b < length xs → ((k : ℕ) → k < length xs → get_or xs k 0 ≤ get_or xs b 0) → ((k : ℕ) → k < b → get_or xs k 0 < get_or xs b 0) → b ≡ brightest_patch xs
 brightest-is xs b inside most first =
     let up = each_below xs 0 b inside in
     let down = all_below xs 0 (get_or xs b 0) (omega arith) most in
-    let is : get_or xs b 0 ≡ greatest xs = omega arith in
-    let test : ℕ → Bool = λ v. eqb v (greatest xs) in
+    let is : get_or xs b 0 ≡ greatest_value xs = omega arith in
+    let test : ℕ → Bool = λ v. eqb v (greatest_value xs) in
     let place : position_or_len test xs ≡ b =
     position_or_len_is test xs b 0 (omega arith) (λ k l. let lt = first k l in ne_eqb _ _ (λ e. omega arith)) (λ _. eq-eqb _ _ is) in
     let found : ltb (position_or_len test xs) (length xs) ≡ true = lt-ltb _ _ (omega arith) in

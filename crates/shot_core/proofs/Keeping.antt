@@ -5,7 +5,7 @@ use mathlib.Core.Logic.{dite}
 use native.Mathlib.Decide.{ℕ_discrete}
 use Rattle.std.proofs.lemmas.Nat.{mul-le}
 use Rattle.flux_system.specs.Sums.{sum_below}
-use Rattle.flux_system.specs.System.{FluxSystem, scale, patches, coefficient, passed, keep}
+use Rattle.flux_system.specs.System.{FluxSystem, scale, patches, coefficient, passed_part, keep}
 use Rattle.flux_system.specs.Validity.{IsSystem}
 use Rattle.flux_system.proofs.Sums.{sum-same, sum-add, sum-scale, sum-change, sum-places}
 use Rattle.flux_system.proofs.Keeping.{keep-above}
@@ -14,7 +14,7 @@ use Rattle.flux_ledger.specs.Balance.{IsBalanced, IsPaid, passed_to}
 use Rattle.flux_ledger.proofs.Bounds.{Balances, balances, balanced, taken_bound, residual_bound, wins_bound}
 use Rattle.shot_core.specs.Shots.{shot, parts_after}
 use Rattle.flux_ledger.specs.Balance.{unshot}
-use Rattle.shot_core.proofs.Listed.{listed-at, listed-length, set-zero}
+use Rattle.shot_core.proofs.Lists.{list-at, list-length, set-zero}
 
 module _ (s : FluxSystem) (l : Ledger) (i : ℕ) (inside : i < patches s) (b : Balances s l) where
   -- what the shot takes
@@ -22,10 +22,10 @@ module _ (s : FluxSystem) (l : Ledger) (i : ℕ) (inside : i < patches s) (b : B
   taking = get_or l.residual i 0
 
   residual_after : (j : ℕ) → j < patches s → get_or (shot s l i).residual j 0 ≡ get_or (set l.residual i 0) j 0 + parts_after s i taking l.err j / scale
-  residual_after j h = listed-at (λ k. get_or (set l.residual i 0) k 0 + parts_after s i taking l.err k / scale) (patches s) j h
+  residual_after j h = list-at (λ k. get_or (set l.residual i 0) k 0 + parts_after s i taking l.err k / scale) (patches s) j h
 
   err_after : (j : ℕ) → j < patches s → get_or (shot s l i).err j 0 ≡ parts_after s i taking l.err j % scale
-  err_after j h = listed-at (λ k. parts_after s i taking l.err k % scale) (patches s) j h
+  err_after j h = list-at (λ k. parts_after s i taking l.err k % scale) (patches s) j h
 
   taken_here : get_or (shot s l i).taken i 0 ≡ get_or l.taken i 0 + taking
   taken_here = let long = b.lengths.of_taken in get_or-set_same l.taken i (get_or l.taken i 0 + taking) 0 (omega arith)
@@ -53,8 +53,8 @@ module _ (s : FluxSystem) (l : Ledger) (i : ℕ) (inside : i < patches s) (b : B
     lengths = record {
       of_direct = b.lengths.of_direct;
       of_taken = length-set l.taken i (get_or l.taken i 0 + taking) ∙ b.lengths.of_taken;
-      of_residual = listed-length _ (patches s);
-      of_err = listed-length _ (patches s);
+      of_residual = list-length _ (patches s);
+      of_err = list-length _ (patches s);
     };
     balance = λ j h.
         let old = b.balance j h in
@@ -90,20 +90,20 @@ module _ (s : FluxSystem) (l : Ledger) (i : ℕ) (inside : i < patches s) (b : B
       let change = sum-change n (λ j. scale * get_or l.residual j 0 + get_or l.err j 0) (λ j. scale * get_or (set l.residual i 0) j 0 + get_or l.err j 0) i inside
       (λ j ne. ap (λ (y : ℕ). scale * y + get_or l.err j 0) (get_or-set_other l.residual i j 0 0 ne)) in
       let above = keep-above s valid i inside in
-      let whole : passed s i + keep s i ≡ scale = omega arith in
+      let whole : passed_part s i + keep s i ≡ scale = omega arith in
       let m = ap (λ (y : ℕ). taking * y) whole in
       omega arith
 
 -- the same of a balanced and paid ledger, and what fits in it
 module _ (s : FluxSystem) (valid : IsSystem s) (l : Ledger) (b : IsBalanced s l) (paid : IsPaid s l) (limit : sum l.direct ≤ 10000000000000000) (i : ℕ) (inside : i < patches s) (enough : s.threshold ≤ get_or l.residual i 0) where
-  pub kept_paid : IsPaid s (shot s l i)
-  kept_paid = shot_paid s l i inside (balances s l b) enough paid
+  pub shot_stays_paid : IsPaid s (shot s l i)
+  shot_stays_paid = shot_paid s l i inside (balances s l b) enough paid
 
-  pub kept_balanced : IsBalanced s (shot s l i)
-  kept_balanced = balanced s valid (shot s l i) (shot_balances s l i inside (balances s l b)) kept_paid
+  pub shot_stays_balanced : IsBalanced s (shot s l i)
+  shot_stays_balanced = balanced s valid (shot s l i) (shot_balances s l i inside (balances s l b)) shot_stays_paid
 
-  pub lowered : unshot s (shot s l i) < unshot s l
-  lowered =
+  pub unshot_falls : unshot s (shot s l i) < unshot s l
+  unshot_falls =
       let after = unshot_after s l i inside (balances s l b) valid in
       let positive = valid.positive in
       let above = keep-above s valid i inside in
@@ -114,13 +114,13 @@ module _ (s : FluxSystem) (valid : IsSystem s) (l : Ledger) (b : IsBalanced s l)
   taking_fits = residual_bound s valid l (balances s l b) limit i inside
 
   pub residual_fits : (j : ℕ) → j < patches s → get_or (shot s l i).residual j 0 ≤ 10000000000000000
-  residual_fits j h = residual_bound s valid (shot s l i) (balances s (shot s l i) kept_balanced) limit j h
+  residual_fits j h = residual_bound s valid (shot s l i) (balances s (shot s l i) shot_stays_balanced) limit j h
 
   pub taken_fits : get_or l.taken i 0 + get_or l.residual i 0 ≤ 200000000000000000
   taken_fits =
       let here = taken_here s l i inside (balances s l b) in
-      let bound = taken_bound s valid (shot s l i) (balances s (shot s l i) kept_balanced) limit i inside in
+      let bound = taken_bound s valid (shot s l i) (balances s (shot s l i) shot_stays_balanced) limit i inside in
       omega arith
 
   pub wins_fit : l.wins + 1 ≤ 200000000000000000
-  wins_fit = wins_bound s valid (shot s l i) kept_balanced limit
+  wins_fit = wins_bound s valid (shot s l i) shot_stays_balanced limit

@@ -1,4 +1,4 @@
-pub mod Listed
+pub mod Lists
 pub mod Brightest
 pub mod Booking
 pub mod Keeping

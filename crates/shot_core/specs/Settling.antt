@@ -1,36 +1,35 @@
 -- The settled ledger: the first patch of the greatest residual shoots, again and again while that residual reaches the threshold
 -- (the order of progressive refinement, Cohen, Chen, Wallace and Greenberg 1988).
-use Rattle.std.specs.Prelude.{ℕ, ◌==◌, Bool, if◌then◌else◌, nat_le, max, List, fold, position, unwrap_or, slice_index, replicate}
-use Rattle.std.proofs.Common.{zero, suc}
+use Rattle.std.specs.Prelude.{ℕ, zero, suc, ◌==◌, Bool, if◌then◌else◌, nat_le, max, List, fold, position, unwrap_or, slice_index, replicate}
 use Rattle.flux_system.specs.System.{FluxSystem, patches}
 use Rattle.flux_ledger.specs.Balance.{unshot}
 use Rattle.flux_ledger.specs.declared.ledger.Ledger.{Ledger}
 use Rattle.shot_core.specs.Shots.{shot}
 
 -- the greatest of some values, 0 where there are none
-abbrev pub greatest : List ℕ → ℕ
-greatest values = fold max 0 values
+abbrev pub greatest_value : List ℕ → ℕ
+greatest_value values = fold max 0 values
 
 -- the first place of the greatest value
-abbrev pub brightest : List ℕ → ℕ
-brightest values = unwrap_or (position (λ value. value == greatest values) values) 0
+abbrev pub brightest_patch : List ℕ → ℕ
+brightest_patch values = unwrap_or (position (λ value. value == greatest_value values) values) 0
 
 -- some residual reaches the threshold
 abbrev pub reaches : FluxSystem → Ledger → Bool
-reaches s l = nat_le s.threshold (slice_index l.residual (brightest l.residual))
+reaches s l = nat_le s.threshold (slice_index l.residual (brightest_patch l.residual))
 
 -- so many shots at most, each of the brightest patch, while its residual reaches the threshold
-abbrev pub settled_within : ℕ → FluxSystem → Ledger → Ledger
-settled_within zero s l = l
-settled_within (suc shots) s l = if reaches s l then settled_within shots s (shot s l (brightest l.residual)) else l
+abbrev pub settled_ledger_within : ℕ → FluxSystem → Ledger → Ledger
+settled_ledger_within zero s l = l
+settled_ledger_within (suc shots) s l = if reaches s l then settled_ledger_within shots s (shot s l (brightest_patch l.residual)) else l
 
 -- the ledger that all those shots lead to: each shot lowers what is unshot by what the patch keeps, so there are fewer shots than parts of it
-abbrev pub settled : FluxSystem → Ledger → Ledger
-settled s l = settled_within (unshot s l) s l
+abbrev pub settled_ledger : FluxSystem → Ledger → Ledger
+settled_ledger s l = settled_ledger_within (unshot s l) s l
 
 -- a ledger of which nothing was taken yet
-abbrev pub untouched : FluxSystem → List ℕ → Ledger
-untouched s direct = record {
+abbrev pub untouched_ledger : FluxSystem → List ℕ → Ledger
+untouched_ledger s direct = record {
   direct = direct;
   taken = replicate (patches s) 0;
   residual = direct;

@@ -2,7 +2,7 @@
 ghost use Rattle.std.specs.Prelude.{◌≡◌, ◌≤◌, ◌^◌, IfOk, length, sum};
 ghost use Rattle.flux_system.specs.System.{patches};
 ghost use Rattle.flux_ledger.specs.Balance.{IsBalanced, IsFinished, IsPaid};
-ghost use Rattle.shot_core.specs.Settling.{settled, untouched};
+ghost use Rattle.shot_core.specs.Settling.{settled_ledger, untouched_ledger};
 
 use crate::places::brightest_place;
 use crate::shots::shoot;
@@ -45,7 +45,7 @@ pub fn settle(system: &System, settler: &mut Settler, ledger: &mut Ledger)
     requires flux { sum ledger.old.direct ≤ 10 ^ 16 }
     requires settler { settler.old ≡ patches system.now }
 
-    ensures settled { ledger.new ≡ settled system.now ledger.old }
+    ensures settled { ledger.new ≡ settled_ledger system.now ledger.old }
     ensures finished { IsFinished system.now ledger.new }
     ensures balanced { IsBalanced system.now ledger.new }
     ensures paid { IsPaid system.now ledger.new }
@@ -63,7 +63,7 @@ fn settle_over(system: &System, amounts: &mut [u64], ledger: &mut Ledger)
     requires paid { IsPaid system.now ledger.old }
     requires flux { sum ledger.old.direct ≤ 10 ^ 16 }
     requires amounts { length amounts.old ≡ patches system.now }
-    ensures settled { ledger.new ≡ settled system.now ledger.old }
+    ensures settled { ledger.new ≡ settled_ledger system.now ledger.old }
     ensures finished { IsFinished system.now ledger.new }
     ensures balanced { IsBalanced system.now ledger.new }
     ensures paid { IsPaid system.now ledger.new }
@@ -84,7 +84,7 @@ pub fn serial(alloc: Global, system: &System, direct: &[u64]) -> Result<Ledger, 
     requires lengths { length direct.now ≡ patches system.now }
     requires flux { sum direct.now ≤ 10 ^ 16 }
 
-    ensures settled { IfOk result (λ ledger. ledger ≡ settled system.now (untouched system.now direct.now)) }
+    ensures settled { IfOk result (λ ledger. ledger ≡ settled_ledger system.now (untouched_ledger system.now direct.now)) }
     ensures finished { IfOk result (λ ledger. IsFinished system.now ledger) }
     ensures balanced { IfOk result (λ ledger. IsBalanced system.now ledger) }
     ensures paid { IfOk result (λ ledger. IsPaid system.now ledger) }
@@ -100,7 +100,7 @@ pub fn serial(alloc: Global, system: &System, direct: &[u64]) -> Result<Ledger, 
 
 // The ledger of a direct flux of which nothing was taken yet.
 fn untouched_ledger(alloc: Global, system: &System, direct: &[u64]) -> Result<Ledger, AllocError>
-    ensures { IfOk result (λ ledger. ledger ≡ untouched system.now direct.now) }
+    ensures { IfOk result (λ ledger. ledger ≡ untouched_ledger system.now direct.now) }
 {
     let n = system.len();
     Ok(Ledger {

@@ -10,8 +10,9 @@ use Rattle.std.proofs.lemmas.List.Elements.{All-from_get_or}
 use Rattle.std.proofs.lemmas.List.Folds.{list_any_at, list_any_none}
 use Rattle.photo_web.specs.declared.photometry.SymKind.{SymKind}
 use Rattle.photo_web.specs.declared.photometry.SymKind.TheVariants.{Quadrant, Plane0, Plane90, Full}
-use Rattle.symmetry.specs.Images.{is_image, is_plane, source, place_of}
-use Rattle.symmetry.proofs.Lists.{position_is, rising_lt, rising_le}
+use Rattle.symmetry.specs.Images.{is_image, is_plane, source, stored_place}
+use Rattle.laws.proofs.Rising.{rising_lt, rising_le}
+use Rattle.symmetry.proofs.Lists.{position_is}
 
 pub full : (d a : ℕ) → is_image Full a d ≡ eqb d (a - 0)
 full d a = grind (arith, nat_tests)
@@ -78,7 +79,7 @@ module _ (kind : SymKind) (stored : List ℕ) (up : IsStrictlyIncreasing stored)
         (λ j h. tells.only a j above below (omega arith) ∙ ne_eqb _ _ (λ same. let lt = rising_lt stored up j k h inside in omega arith))
         here
 
-    pub hit_place : place_of kind stored a ≡ k
+    pub hit_place : stored_place kind stored a ≡ k
     hit_place = ap (λ (o : Option ℕ). unwrap_or o (unwrap_or (source kind stored 0) 0)) hit_source
 
   -- an angle that no stored angle comes to

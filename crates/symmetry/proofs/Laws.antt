@@ -7,7 +7,7 @@ use Rattle.std.proofs.lemmas.Bool.Decides.{nat_tests}
 use Rattle.photo_web.specs.declared.photometry.SymKind.{SymKind}
 use Rattle.photo_web.specs.declared.photometry.SymKind.TheVariants.{Axis, Quadrant, Plane0, Plane90, Full}
 use Rattle.symmetry.specs.Images.{has_span, is_image}
-use Rattle.symmetry.proofs.Lists.{rising_lt}
+use Rattle.laws.proofs.Rising.{rising_lt}
 use Rattle.symmetry.proofs.Images.{wrapped}
 use Rattle.symmetry.proofs.Symmetries.{one_a, most0, most_q, least_h, most_h}
 

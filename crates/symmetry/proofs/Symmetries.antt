@@ -6,10 +6,11 @@ use Rattle.std.specs.List.Sorted.{IsStrictlyIncreasing}
 use Rattle.std.proofs.lemmas.Bool.{eqb-true, ne_eqb, and_parts, leb-true, cases_lt}
 use Rattle.std.proofs.lemmas.Bool.Decides.{nat_tests}
 use Rattle.photo_web.specs.declared.photometry.SymKind.TheVariants.{Axis, Quadrant, Plane0, Plane90, Full}
-use Rattle.photo_web.specs.Web.{row_from}
-use Rattle.symmetry.specs.Images.{has_span, place_of, source}
+use Rattle.photo_web.specs.Web.{row_values}
+use Rattle.symmetry.specs.Images.{has_span, stored_place, source}
 use Rattle.symmetry.specs.Growth.{IsGrown}
-use Rattle.symmetry.proofs.Lists.{rising_lt, rising_le, two_of, position_none}
+use Rattle.laws.proofs.Rising.{rising_lt, rising_le}
+use Rattle.symmetry.proofs.Lists.{two_of, position_none}
 use Rattle.symmetry.proofs.Images.{TellsBack, closes, hit_plane, hit_place, hit_source, gap, miss, full, plane0_first, plane0_second, quadrant_first, quadrant_second, quadrant_third, quadrant_fourth, plane90_first, plane90_second, plane90_third, plane90_end}
 use Rattle.symmetry.proofs.Growth.{grown_hit, grown_skip}
 use Rattle.symmetry.proofs.Ways.{rises, falls}
@@ -19,13 +20,13 @@ abbrev pub risen : List ℕ → ℕ → ℕ → ℕ → List ℕ
 risen stored from to turn = map (λ i. turn + slice_index stored (from + i)) (range_with_len 0 (to - from))
 
 abbrev pub risen_rows : ℕ → List ℕ → ℕ → ℕ → List ℕ
-risen_rows width stored_values from to = flat_map (λ i. row_from width stored_values (from + i)) (range_with_len 0 (to - from))
+risen_rows width stored_values from to = flat_map (λ i. row_values width stored_values (from + i)) (range_with_len 0 (to - from))
 
 abbrev pub fallen : List ℕ → ℕ → ℕ → ℕ → List ℕ
 fallen stored from to total = map (λ i. total - slice_index stored (to - 1 - i)) (range_with_len 0 (to - from))
 
 abbrev pub fallen_rows : ℕ → List ℕ → ℕ → ℕ → List ℕ
-fallen_rows width stored_values from to = flat_map (λ i. row_from width stored_values (to - 1 - i)) (range_with_len 0 (to - from))
+fallen_rows width stored_values from to = flat_map (λ i. row_values width stored_values (to - 1 - i)) (range_with_len 0 (to - from))
 
 -- the second of two options, where the first is nothing
 unwrapped : (o other : Option ℕ) (k : ℕ) → o ≡ None → other ≡ Some k → unwrap_or o (unwrap_or other 0) ≡ k
@@ -146,7 +147,7 @@ module _ (stored : List ℕ) (up : IsStrictlyIncreasing stored) (stored_values :
     high_a : TellsBack Axis stored 360000 360000 (λ _. 0)
     high_a = record { only = λ a j l h i. let e = all_a j i in rw e (grind (arith, nat_tests)) }
 
-    pub axis_grown : (p v p1 v1 p2 v2 : List ℕ) → p1 ≡ p ++ 0 ∷ [] → v1 ≡ v ++ row_from width stored_values 0 → p2 ≡ p1 ++ 360000 ∷ [] → v2 ≡ v1 ++ row_from width stored_values 0 → IsGrown 0 Axis stored stored_values width p v → IsGrown 360001 Axis stored stored_values width p2 v2
+    pub axis_grown : (p v p1 v1 p2 v2 : List ℕ) → p1 ≡ p ++ 0 ∷ [] → v1 ≡ v ++ row_values width stored_values 0 → p2 ≡ p1 ++ 360000 ∷ [] → v2 ≡ v1 ++ row_values width stored_values 0 → IsGrown 0 Axis stored stored_values width p v → IsGrown 360001 Axis stored stored_values width p2 v2
     axis_grown p v p1 v1 p2 v2 e1 f1 e2 f2 grown =
         let one = one_a in
         let zero_is = all_a 0 (omega arith) in
@@ -179,7 +180,7 @@ module _ (stored : List ℕ) (up : IsStrictlyIncreasing stored) (stored_values :
         rises Full stored up stored_values width 0 360000 0 all_f (omega arith) 0 (length stored) some (omega arith) (omega arith) (omega arith)
         0 m p v p1 v1 (omega arith) (λ a l h. absurd (omega arith)) (omega arith) e1 f1 grown
 
-    pub full_closed : slice_index stored (length stored - 1) < 360000 → (p v p1 v1 p2 v2 : List ℕ) → p1 ≡ p ++ risen stored 0 (length stored) 0 → v1 ≡ v ++ risen_rows width stored_values 0 (length stored) → p2 ≡ p1 ++ 360000 ∷ [] → v2 ≡ v1 ++ row_from width stored_values 0 → IsGrown 0 Full stored stored_values width p v → IsGrown 360001 Full stored stored_values width p2 v2
+    pub full_closed : slice_index stored (length stored - 1) < 360000 → (p v p1 v1 p2 v2 : List ℕ) → p1 ≡ p ++ risen stored 0 (length stored) 0 → v1 ≡ v ++ risen_rows width stored_values 0 (length stored) → p2 ≡ p1 ++ 360000 ∷ [] → v2 ≡ v1 ++ row_values width stored_values 0 → IsGrown 0 Full stored stored_values width p v → IsGrown 360001 Full stored stored_values width p2 v2
     full_closed ends p v p1 v1 p2 v2 e1 f1 e2 f2 grown =
         let s = start_f in
         grown_hit Full stored stored_values width 360000 0 p1 v1 p2 v2 (closes Full stored)
@@ -252,13 +253,13 @@ module _ (stored : List ℕ) (up : IsStrictlyIncreasing stored) (stored_values :
           0 (180000 - slice_index stored 1 + 1) p v p1 v1 (λ _. omega arith) (λ a _ l h. absurd (omega arith)) (λ _. refl) (λ h. absurd (omega arith)) e1 f1 grown)
 
       -- a full turn is no image, and plane 0 is that of half a turn
-      closing : place_of Plane90 stored 360000 ≡ half
+      closing : stored_place Plane90 stored 360000 ≡ half
       closing =
           unwrapped (source Plane90 stored 360000) (source Plane90 stored 0) half
           (position_none _ stored (λ j h. plane90_end (slice_index stored j) 360000 (least_h j h) (most_h j h) refl))
           (hit_source Plane90 stored up 0 90000 (λ a. 180000 - a) first_h 0 half (omega arith) (omega arith) inside (sym half_is))
 
-      pub plane90_grown : (p v p1 v1 p2 v2 p3 v3 p4 v4 : List ℕ) → p1 ≡ p ++ fallen stored 1 (half + 1) 180000 → v1 ≡ v ++ fallen_rows width stored_values 1 (half + 1) → p2 ≡ p1 ++ risen stored 0 (length stored) 0 → v2 ≡ v1 ++ risen_rows width stored_values 0 (length stored) → p3 ≡ p2 ++ fallen stored (half + 1) (length stored - 1) 540000 → v3 ≡ v2 ++ fallen_rows width stored_values (half + 1) (length stored - 1) → p4 ≡ p3 ++ 360000 ∷ [] → v4 ≡ v3 ++ row_from width stored_values half → IsGrown 0 Plane90 stored stored_values width p v → IsGrown 360001 Plane90 stored stored_values width p4 v4
+      pub plane90_grown : (p v p1 v1 p2 v2 p3 v3 p4 v4 : List ℕ) → p1 ≡ p ++ fallen stored 1 (half + 1) 180000 → v1 ≡ v ++ fallen_rows width stored_values 1 (half + 1) → p2 ≡ p1 ++ risen stored 0 (length stored) 0 → v2 ≡ v1 ++ risen_rows width stored_values 0 (length stored) → p3 ≡ p2 ++ fallen stored (half + 1) (length stored - 1) 540000 → v3 ≡ v2 ++ fallen_rows width stored_values (half + 1) (length stored - 1) → p4 ≡ p3 ++ 360000 ∷ [] → v4 ≡ v3 ++ row_values width stored_values half → IsGrown 0 Plane90 stored stored_values width p v → IsGrown 360001 Plane90 stored stored_values width p4 v4
       plane90_grown p v p1 v1 p2 v2 p3 v3 p4 v4 e1 f1 e2 f2 e3 f3 e4 f4 grown =
           let s = start_h in
           let e = end_h in

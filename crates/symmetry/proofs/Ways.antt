@@ -4,10 +4,10 @@ use Rattle.std.specs.Prelude.{slice_index}
 use Rattle.std.specs.List.{range_with_len, flat_map}
 use Rattle.std.specs.List.Sorted.{IsStrictlyIncreasing}
 use Rattle.photo_web.specs.declared.photometry.SymKind.{SymKind}
-use Rattle.photo_web.specs.Web.{row_from}
+use Rattle.photo_web.specs.Web.{row_values}
 use Rattle.symmetry.specs.Images.{is_plane}
 use Rattle.symmetry.specs.Growth.{IsGrown}
-use Rattle.symmetry.proofs.Lists.{rising_lt, rising_le}
+use Rattle.laws.proofs.Rising.{rising_lt, rising_le}
 use Rattle.symmetry.proofs.Images.{TellsBack, hit_plane, hit_place, gap}
 use Rattle.symmetry.proofs.Growth.{before, run}
 
@@ -29,7 +29,7 @@ module _ (kind : SymKind) (stored : List ℕ) (up : IsStrictlyIncreasing stored)
       back_is k = omega arith
 
       -- planes in their order
-      pub rises : (n m : ℕ) (planes values more_planes more_values : List ℕ) → n ≤ turn + slice_index stored from → ((a : ℕ) → n ≤ a → a < turn + slice_index stored from → is_plane kind stored a ≡ false) → m ≡ turn + slice_index stored (to - 1) + 1 → more_planes ≡ planes ++ map (λ i. turn + slice_index stored (from + i)) (range_with_len 0 (to - from)) → more_values ≡ values ++ flat_map (λ i. row_from width rows (from + i)) (range_with_len 0 (to - from)) → IsGrown n kind stored rows width planes values → IsGrown m kind stored rows width more_planes more_values
+      pub rises : (n m : ℕ) (planes values more_planes more_values : List ℕ) → n ≤ turn + slice_index stored from → ((a : ℕ) → n ≤ a → a < turn + slice_index stored from → is_plane kind stored a ≡ false) → m ≡ turn + slice_index stored (to - 1) + 1 → more_planes ≡ planes ++ map (λ i. turn + slice_index stored (from + i)) (range_with_len 0 (to - from)) → more_values ≡ values ++ flat_map (λ i. row_values width rows (from + i)) (range_with_len 0 (to - from)) → IsGrown n kind stored rows width planes values → IsGrown m kind stored rows width more_planes more_values
       rises n m planes values more_planes more_values start empty end p v grown =
           grown_as m _ _ _ more_planes more_values ends p v
           (run kind stored rows width (to - from) n angle (λ (i : ℕ). from + i) planes values
@@ -77,7 +77,7 @@ module _ (kind : SymKind) (stored : List ℕ) (up : IsStrictlyIncreasing stored)
       forth_is k h = let f = fits k h in omega arith
 
       -- planes in the other order, each at its mirror image
-      pub falls : (n m : ℕ) (planes values more_planes more_values : List ℕ) → (from < to → n ≤ total - slice_index stored (to - 1)) → ((a : ℕ) → from < to → n ≤ a → a < total - slice_index stored (to - 1) → is_plane kind stored a ≡ false) → (from < to → m ≡ total - slice_index stored from + 1) → (to ≤ from → m ≡ n) → more_planes ≡ planes ++ map (λ i. total - slice_index stored (to - 1 - i)) (range_with_len 0 (to - from)) → more_values ≡ values ++ flat_map (λ i. row_from width rows (to - 1 - i)) (range_with_len 0 (to - from)) → IsGrown n kind stored rows width planes values → IsGrown m kind stored rows width more_planes more_values
+      pub falls : (n m : ℕ) (planes values more_planes more_values : List ℕ) → (from < to → n ≤ total - slice_index stored (to - 1)) → ((a : ℕ) → from < to → n ≤ a → a < total - slice_index stored (to - 1) → is_plane kind stored a ≡ false) → (from < to → m ≡ total - slice_index stored from + 1) → (to ≤ from → m ≡ n) → more_planes ≡ planes ++ map (λ i. total - slice_index stored (to - 1 - i)) (range_with_len 0 (to - from)) → more_values ≡ values ++ flat_map (λ i. row_values width rows (to - 1 - i)) (range_with_len 0 (to - from)) → IsGrown n kind stored rows width planes values → IsGrown m kind stored rows width more_planes more_values
       falls n m planes values more_planes more_values start empty end stays p v grown =
           grown_as m _ _ _ more_planes more_values ends p v
           (run kind stored rows width (to - from) n image (λ (i : ℕ). to - 1 - i) planes values

@@ -13,9 +13,9 @@ use Rattle.std.proofs.lemmas.List.Quantifiers.{position-Some}
 use Rattle.std.proofs.lemmas.Nat.{mul-le}
 use Rattle.photo_web.specs.declared.photometry.SymKind.{SymKind}
 use Rattle.photo_web.specs.declared.photometry.SymKind.TheVariants.{Axis, Quadrant, Plane0, Plane90, Full}
-use Rattle.photo_web.specs.Web.{row_from}
+use Rattle.photo_web.specs.Web.{row_values}
 use Rattle.photo_web.specs.Validity.{ArePlanes, AreGammas, IsWeb}
-use Rattle.symmetry.specs.Images.{spans, has_span, is_image, is_plane, planes_below, planes_of, source, place_of, expansion}
+use Rattle.symmetry.specs.Images.{spans, has_span, is_image, is_plane, planes_below, planes_of, source, stored_place, expansion}
 use Rattle.symmetry.specs.Growth.{IsGrown}
 use Rattle.symmetry.proofs.Images.{closes}
 use Rattle.symmetry.proofs.Growth.{planes_hit}
@@ -73,7 +73,7 @@ module _ (kind : SymKind) (stored : List ℕ) where
         close = ap (λ (xs : List ℕ). slice_index xs (length (planes_of kind stored) - 1)) last ∙ get_or_push (planes_below 360000 kind stored) 360000 0 (length (planes_of kind stored) - 1) (omega arith);
       }
 
-  place_lt : (a : ℕ) → 1 ≤ length stored → place_of kind stored a < length stored
+  place_lt : (a : ℕ) → 1 ≤ length stored → stored_place kind stored a < length stored
   place_lt a some = within (source kind stored a) (source kind stored 0) (λ k e. (position-Some (is_image kind a) stored k 0 e).0) (λ k e. (position-Some (is_image kind 0) stored k 0 e).0)
     where
       within : (o other : Option ℕ) → ((k : ℕ) → o ≡ Some k → k < length stored) → ((k : ℕ) → other ≡ Some k → k < length stored) → unwrap_or o (unwrap_or other 0) < length stored
@@ -82,7 +82,7 @@ module _ (kind : SymKind) (stored : List ℕ) where
       within None None here there = some
 
 -- a row has its width
-row_length : (width n : ℕ) (rows : List ℕ) (k : ℕ) → length rows ≡ n * width → k < n → length (row_from width rows k) ≡ width
+row_length : (width n : ℕ) (rows : List ℕ) (k : ℕ) → length rows ≡ n * width → k < n → length (row_values width rows k) ≡ width
 row_length width n rows k count h =
     let most = mul-le (k + 1) width n width (omega arith) (omega arith) in
     let t = length-take width (drop (k * width) rows) in
@@ -107,10 +107,10 @@ valid_expansion kind stored gammas rows some span few are count limited =
     record {
       planes = valid_planes kind stored some span few;
       gammas = are;
-      count = rows_length (λ (a : ℕ). row_from (length gammas) rows (place_of kind stored a)) (length gammas) (planes_of kind stored)
-          (λ a. row_length (length gammas) (length stored) rows (place_of kind stored a) count (place_lt kind stored a some));
-      limited = All-flat_map (λ (value : ℕ). value ≤ 1000000000000000) (λ (a : ℕ). row_from (length gammas) rows (place_of kind stored a)) (planes_of kind stored)
-          (λ a. All-take (λ (value : ℕ). value ≤ 1000000000000000) (length gammas) (drop (place_of kind stored a * length gammas) rows) (All-drop (λ (value : ℕ). value ≤ 1000000000000000) (place_of kind stored a * length gammas) rows limited));
+      count = rows_length (λ (a : ℕ). row_values (length gammas) rows (stored_place kind stored a)) (length gammas) (planes_of kind stored)
+          (λ a. row_length (length gammas) (length stored) rows (stored_place kind stored a) count (place_lt kind stored a some));
+      limited = All-flat_map (λ (value : ℕ). value ≤ 1000000000000000) (λ (a : ℕ). row_values (length gammas) rows (stored_place kind stored a)) (planes_of kind stored)
+          (λ a. All-take (λ (value : ℕ). value ≤ 1000000000000000) (length gammas) (drop (stored_place kind stored a * length gammas) rows) (All-drop (λ (value : ℕ). value ≤ 1000000000000000) (stored_place kind stored a * length gammas) rows limited));
     }
 
 -- what has grown past a full turn is the whole web

@@ -4,7 +4,7 @@ use Rattle.std.specs.Prelude.{ℕ, ◌+◌, ◌-◌, ◌%◌, ◌==◌, ◌&&◌
 use Rattle.std.specs.List.{list_any, flat_map, range_with_len}
 use Rattle.photo_web.specs.declared.photometry.SymKind.{SymKind}
 use Rattle.photo_web.specs.declared.photometry.SymKind.TheVariants.{Axis, Quadrant, Plane0, Plane90, Full}
-use Rattle.photo_web.specs.Web.{PhotometricWeb, row_from}
+use Rattle.photo_web.specs.Web.{PhotometricWeb, row_values}
 
 -- stored planes begin at one angle and end at another
 abbrev pub spans : ℕ → ℕ → List ℕ → Bool
@@ -47,8 +47,8 @@ abbrev pub source : SymKind → List ℕ → ℕ → Option ℕ
 source sym stored angle = position (is_image sym angle) stored
 
 -- the place of the stored plane whose values stand at a plane of the web: where a full turn is no image, that of plane 0
-abbrev pub place_of : SymKind → List ℕ → ℕ → ℕ
-place_of sym stored angle = unwrap_or (source sym stored angle) (unwrap_or (source sym stored 0) 0)
+abbrev pub stored_place : SymKind → List ℕ → ℕ → ℕ
+stored_place sym stored angle = unwrap_or (source sym stored angle) (unwrap_or (source sym stored 0) 0)
 
 -- the web: stored planes with gammas and a row of values for each plane, mirrored and closed
 unfoldable pub expansion : SymKind → List ℕ → List ℕ → List ℕ → PhotometricWeb
@@ -56,5 +56,5 @@ expansion sym stored gammas rows =
     record {
       planes = planes_of sym stored;
       gammas = gammas;
-      values = flat_map (λ angle. row_from (length gammas) rows (place_of sym stored angle)) (planes_of sym stored);
+      values = flat_map (λ angle. row_values (length gammas) rows (stored_place sym stored angle)) (planes_of sym stored);
     }

@@ -4,7 +4,7 @@ ghost use Rattle.std.specs.List.Sorted.{IsStrictlyIncreasing};
 ghost use Rattle.photo_web.specs.Validity.{AreGammas};
 ghost use Rattle.symmetry.specs.Images.{has_span, expansion};
 
-use crate::growing::{Grown, Stored};
+use crate::growing::{GrowingWeb, StoredPlanes};
 use crate::kinds::{grow, most_planes};
 use photo_web::{SymKind, Web};
 use std::alloc::{AllocError, Global};
@@ -28,13 +28,13 @@ pub fn expand(
     ensures { IfOk result (λ web. web ≡ expansion sym planes.now gammas.now rows.now) }
 {
     let width = gammas.len();
-    let stored = Stored {
+    let stored = StoredPlanes {
         planes,
         rows,
         width,
     };
     let most = most_planes(sym, planes.len());
-    let mut grown = Grown::new(alloc, most, most * width)?;
+    let mut grown = GrowingWeb::new(alloc, most, most * width)?;
     grow(sym, &stored, &mut grown)?;
     let gammas = Vec::from_slice(alloc, gammas)?;
     Ok(Web::from_vecs(grown.planes, gammas, grown.values))

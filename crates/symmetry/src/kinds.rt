@@ -5,7 +5,7 @@ ghost use Rattle.std.specs.List.Sorted.{IsStrictlyIncreasing};
 ghost use Rattle.symmetry.specs.Images.{has_span};
 ghost use Rattle.symmetry.specs.Growth.{IsGrown};
 
-use crate::growing::{Grown, Stored};
+use crate::growing::{GrowingWeb, StoredPlanes};
 use photo_web::{FULL_TURN, HALF_TURN, SymKind};
 use std::alloc::AllocError;
 
@@ -24,7 +24,11 @@ pub(crate) fn most_planes(sym: SymKind, stored: usize) -> usize
 }
 
 // Appends all planes of the web in rising order. A mirror plane is appended once, on the way forth.
-pub(crate) fn grow(sym: SymKind, stored: &Stored, grown: &mut Grown) -> Result<(), AllocError>
+pub(crate) fn grow(
+    sym: SymKind,
+    stored: &StoredPlanes,
+    grown: &mut GrowingWeb,
+) -> Result<(), AllocError>
     requires some { 1 ≤ length stored.now.planes.now }
     requires few { length stored.now.planes.now ≤ 361 }
     requires rising { IsStrictlyIncreasing stored.now.planes.now }

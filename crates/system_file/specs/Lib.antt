@@ -1,3 +1,3 @@
 pub mod Rows
 pub mod SystemText
-pub mod Narrowing
+pub mod Shapes

@@ -19,6 +19,6 @@ unfoldable pub numbers : List ℕ → List ℕ
 numbers line = map numeral_value (drop 1 (words line))
 
 -- line k of the text, counted from 0, is there and is such a row
-unfoldable pub row_duty : List ℕ → ℕ → List ℕ → ℕ → Duty SysFault
-row_duty text k keyword count =
+unfoldable pub line_duty : List ℕ → ℕ → List ℕ → ℕ → Duty SysFault
+line_duty text k keyword count =
     if nat_lt k (length (lines text)) then unless (is_row keyword count (line_text text k)) (Number (k + 1)) else Some Short

@@ -12,11 +12,11 @@ use Rattle.flux_system.specs.Validity.{system_duties}
 use Rattle.lux_lines.specs.Lines.{lines, line_text}
 use Rattle.system_file.specs.declared.faults.SysFault.{SysFault}
 use Rattle.system_file.specs.declared.faults.SysFault.TheVariants.{Header, Trailing, Size, Threshold, Reflectance, RowTotal, Memory}
-use Rattle.system_file.specs.Rows.{numbers, row_duty}
+use Rattle.system_file.specs.Rows.{numbers, line_duty}
 
 -- what line 2 says of the number of patches, 0 where it says nothing
-abbrev pub count : List ℕ → ℕ
-count text = slice_index (numbers (line_text text 1)) 0
+abbrev pub patch_count : List ℕ → ℕ
+patch_count text = slice_index (numbers (line_text text 1)) 0
 
 -- the shares that line 6 and those behind it say, a line for each patch
 abbrev pub shares_in : List ℕ → ℕ → List ℕ
@@ -27,7 +27,7 @@ abbrev pub system_in : List ℕ → FluxSystem
 system_in text = record {
   threshold = slice_index (numbers (line_text text 2)) 0;
   reflectance = numbers (line_text text 4);
-  shares = shares_in text (count text);
+  shares = shares_in text (patch_count text);
 }
 
 -- the direct flux that line 4 says
@@ -46,23 +46,23 @@ of_system system.Memory = Memory
 unfoldable pub head_duties : List ℕ → List (Duty SysFault)
 head_duties text =
     unless (bytes_eq (line_text text 0) (codes "lux-system 1")) Header
-    ∷ row_duty text 1 (codes "patches") 1
-    ∷ unless (nat_le 1 (count text) && nat_le (count text) MOST_PATCHES) (Size (count text))
-    ∷ row_duty text 2 (codes "threshold") 1
+    ∷ line_duty text 1 (codes "patches") 1
+    ∷ unless (nat_le 1 (patch_count text) && nat_le (patch_count text) MOST_PATCHES) (Size (patch_count text))
+    ∷ line_duty text 2 (codes "threshold") 1
     ∷ []
 
 -- the lines behind them: direct flux, reflectances, a row of shares for each patch, and no more
 unfoldable pub list_duties : List ℕ → ℕ → List (Duty SysFault)
 list_duties text n =
-    row_duty text 3 (codes "direct") n
-    ∷ row_duty text 4 (codes "reflectance") n
-    ∷ each n (λ i. row_duty text (5 + i) (codes "shares") n)
+    line_duty text 3 (codes "direct") n
+    ∷ line_duty text 4 (codes "reflectance") n
+    ∷ each n (λ i. line_duty text (5 + i) (codes "shares") n)
     ∷ unless (nat_le (length (lines text)) (5 + n)) (Trailing (6 + n))
     ∷ []
 
 -- all lines, and then the numbers as a flux system
 unfoldable pub text_duties : List ℕ → List (Duty SysFault)
-text_duties text = head_duties text ++ (list_duties text (count text) ++ option_map of_system (first (system_duties (system_in text))) ∷ [])
+text_duties text = head_duties text ++ (list_duties text (patch_count text) ++ option_map of_system (first (system_duties (system_in text))) ∷ [])
 
 -- the flux system and the direct flux of a text, or its refusal
 abbrev pub system_of : List ℕ → Result (FluxSystem × List ℕ) SysFault

@@ -5,9 +5,9 @@ ghost use Rattle.duties.specs.Duties.{Answers, first, each, unless};
 ghost use Rattle.flux_system.specs.System.{patches};
 ghost use Rattle.lux_lines.specs.Lines.{lines, line_text};
 ghost use Rattle.system_file.specs.declared.faults.SysFault.TheVariants.{Memory, Header, Trailing};
-ghost use Rattle.system_file.specs.Rows.{numbers, row_duty};
-ghost use Rattle.system_file.specs.SystemText.{count as count_in, head_duties, list_duties, shares_in, system_of};
-ghost use Rattle.system_file.specs.Narrowing.{narrow};
+ghost use Rattle.system_file.specs.Rows.{numbers, line_duty};
+ghost use Rattle.system_file.specs.SystemText.{patch_count, head_duties, list_duties, shares_in, system_of};
+ghost use Rattle.system_file.specs.Shapes.{narrow_number};
 
 use crate::SysFault;
 use crate::rows::{append_row, read_number, read_row};
@@ -44,7 +44,7 @@ pub fn read_system(alloc: Global, text: &[u8]) -> Result<(System, Vec<u64>), Sys
 fn read_head(source: &mut Lines, row: &mut Vec<u64>) -> Result<(usize, u64), SysFault>
     requires { source.old.read ≡ 0 }
     ensures answer { Answers Memory (first (head_duties source.old.text)) result }
-    ensures count { IfOk result (λ r. r.0 ≡ count_in source.old.text) }
+    ensures count { IfOk result (λ r. r.0 ≡ patch_count source.old.text) }
     ensures few { IfOk result (λ r. r.0 ≤ 1024) }
     ensures threshold { IfOk result (λ r. r.1 ≡ slice_index (numbers (line_text source.old.text 2)) 0) }
     ensures same { OnOk result (source.new.text ≡ source.old.text) }
@@ -89,8 +89,8 @@ fn read_lists(
     requires few { count ≤ 1024 }
     ensures answer { Answers Memory (first (list_duties source.old.text count)) result }
     ensures direct { IfOk result (λ lists. lists.direct.items ≡ numbers (line_text source.old.text 3)) }
-    ensures reflectance { IfOk result (λ lists. lists.reflectance.items ≡ map narrow (numbers (line_text source.old.text 4))) }
-    ensures shares { IfOk result (λ lists. lists.shares.items ≡ map narrow (shares_in source.old.text count)) }
+    ensures reflectance { IfOk result (λ lists. lists.reflectance.items ≡ map narrow_number (numbers (line_text source.old.text 4))) }
+    ensures shares { IfOk result (λ lists. lists.shares.items ≡ map narrow_number (shares_in source.old.text count)) }
     ensures lengths { IfOk result (λ lists. length lists.direct.items ≡ length lists.reflectance.items) }
 {
     let direct = read_direct(alloc, source, count)?;
@@ -105,7 +105,7 @@ fn read_lists(
 }
 
 fn read_direct(alloc: Global, source: &mut Lines, count: usize) -> Result<Vec<u64>, SysFault>
-    ensures answer { Answers Memory (row_duty source.old.text source.old.read (codes "direct") count) result }
+    ensures answer { Answers Memory (line_duty source.old.text source.old.read (codes "direct") count) result }
     ensures value { IfOk result (λ direct. direct.items ≡ numbers (line_text source.old.text source.old.read)) }
     ensures len { IfOk result (λ direct. length direct.items ≡ count) }
     ensures same { OnOk result (source.new.text ≡ source.old.text) }
@@ -122,8 +122,8 @@ fn read_reflectance(
     count: usize,
     row: &mut Vec<u64>,
 ) -> Result<Vec<u32>, SysFault>
-    ensures answer { Answers Memory (row_duty source.old.text source.old.read (codes "reflectance") count) result }
-    ensures value { IfOk result (λ reflectance. reflectance.items ≡ map narrow (numbers (line_text source.old.text source.old.read))) }
+    ensures answer { Answers Memory (line_duty source.old.text source.old.read (codes "reflectance") count) result }
+    ensures value { IfOk result (λ reflectance. reflectance.items ≡ map narrow_number (numbers (line_text source.old.text source.old.read))) }
     ensures len { IfOk result (λ reflectance. length reflectance.items ≡ count) }
     ensures same { OnOk result (source.new.text ≡ source.old.text) }
     ensures next { OnOk result (source.new.read ≡ source.old.read + 1) }
@@ -141,8 +141,8 @@ fn read_shares(
 ) -> Result<Vec<u32>, SysFault>
     requires place { source.old.read ≡ 5 }
     requires few { count ≤ 1024 }
-    ensures answer { Answers Memory (each count (λ i. row_duty source.old.text (5 + i) (codes "shares") count)) result }
-    ensures value { IfOk result (λ shares. shares.items ≡ map narrow (shares_in source.old.text count)) }
+    ensures answer { Answers Memory (each count (λ i. line_duty source.old.text (5 + i) (codes "shares") count)) result }
+    ensures value { IfOk result (λ shares. shares.items ≡ map narrow_number (shares_in source.old.text count)) }
     ensures same { OnOk result (source.new.text ≡ source.old.text) }
     ensures next { OnOk result (source.new.read ≡ 5 + count) }
 {

@@ -6,21 +6,21 @@ ghost use Rattle.lux_lines.specs.Lines.{line_text};
 ghost use Rattle.lux_lines.specs.Words.{words};
 ghost use Rattle.lux_lines.specs.Numerals.{is_numeral, numeral_value};
 ghost use Rattle.system_file.specs.declared.faults.SysFault.TheVariants.{Memory};
-ghost use Rattle.system_file.specs.Rows.{is_row, numbers, row_duty};
-ghost use Rattle.system_file.specs.Narrowing.{narrow};
+ghost use Rattle.system_file.specs.Rows.{is_row, numbers, line_duty};
+ghost use Rattle.system_file.specs.Shapes.{narrow_number};
 
 use crate::SysFault;
 use lux_lines::{Lines, Words, numeral};
 
 /// The next line, as a keyword and so many numerals, whose numbers then stand in `row`.
-#[tactic(auto, unfolding(crate::specs::Rows::row_duty, duties::specs::Duties::unless))]
+#[tactic(auto, unfolding(crate::specs::Rows::line_duty, duties::specs::Duties::unless))]
 pub fn read_row(
     source: &mut Lines,
     keyword: &[u8],
     count: usize,
     row: &mut Vec<u64>,
 ) -> Result<(), SysFault>
-    ensures answer { Answers Memory (row_duty source.old.text source.old.read keyword.now count) result }
+    ensures answer { Answers Memory (line_duty source.old.text source.old.read keyword.now count) result }
     ensures value { OnOk result (row.new.items ≡ numbers (line_text source.old.text source.old.read)) }
     ensures len { OnOk result (length row.new.items ≡ count) }
     ensures same { OnOk result (source.new.text ≡ source.old.text) }
@@ -38,7 +38,7 @@ pub fn read_row(
 
 /// The next line, as a keyword and one numeral.
 pub fn read_number(source: &mut Lines, keyword: &[u8], row: &mut Vec<u64>) -> Result<u64, SysFault>
-    ensures answer { Answers Memory (row_duty source.old.text source.old.read keyword.now 1) result }
+    ensures answer { Answers Memory (line_duty source.old.text source.old.read keyword.now 1) result }
     ensures value { IfOk result (λ number. number ≡ slice_index (numbers (line_text source.old.text source.old.read)) 0) }
     ensures same { OnOk result (source.new.text ≡ source.old.text) }
     ensures next { OnOk result (source.new.read ≡ source.old.read + 1) }
@@ -55,8 +55,8 @@ pub fn append_row(
     row: &mut Vec<u64>,
     into: &mut Vec<u32>,
 ) -> Result<(), SysFault>
-    ensures answer { Answers Memory (row_duty source.old.text source.old.read keyword.now count) result }
-    ensures value { OnOk result (into.new.items ≡ into.old.items ++ map narrow (numbers (line_text source.old.text source.old.read))) }
+    ensures answer { Answers Memory (line_duty source.old.text source.old.read keyword.now count) result }
+    ensures value { OnOk result (into.new.items ≡ into.old.items ++ map narrow_number (numbers (line_text source.old.text source.old.read))) }
     ensures len { OnOk result (length into.new.items ≡ length into.old.items + count) }
     ensures same { OnOk result (source.new.text ≡ source.old.text) }
     ensures next { OnOk result (source.new.read ≡ source.old.read + 1) }
@@ -105,7 +105,7 @@ fn read_numerals(mut words: Words, count: usize, row: &mut Vec<u64>) -> Result<b
 
 // Appends the numbers in 32 bits.
 fn append_narrow(row: &[u64], into: &mut Vec<u32>) -> Result<(), SysFault>
-    ensures value { OnOk result (into.new.items ≡ into.old.items ++ map narrow row.now) }
+    ensures value { OnOk result (into.new.items ≡ into.old.items ++ map narrow_number row.now) }
     ensures len { OnOk result (length into.new.items ≡ length into.old.items + length row.now) }
     ensures memory { IfErr result (λ fault. fault ≡ Memory) }
 {
@@ -116,7 +116,7 @@ fn append_narrow(row: &[u64], into: &mut Vec<u32>) -> Result<(), SysFault>
 }
 
 fn narrow(number: u64) -> u32
-    ensures { result ≡ narrow number }
+    ensures { result ≡ narrow_number number }
 {
     if number < 4_294_967_295 {
         number as u32

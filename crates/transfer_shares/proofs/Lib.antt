@@ -1,4 +1,4 @@
 pub mod Weights
 pub mod Totals
-pub mod Joined
+pub mod RowPlaces
 pub mod Systems

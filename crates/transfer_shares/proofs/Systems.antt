@@ -12,8 +12,8 @@ use Rattle.room_patches.specs.Patches.{patches, IsPatch}
 use Rattle.flux_system.specs.System.{row_total}
 use Rattle.flux_system.specs.Validity.{reflectance_duty, row_duty, system_duties}
 use Rattle.flux_system.proofs.Tests.{size_met, threshold_met, reflectance_met, row_met, rows_decide}
-use Rattle.transfer_shares.specs.Shares.{weight, weights, share, shares_of, row_from, all_shares, reflectances_of, system_of}
-use Rattle.transfer_shares.proofs.Joined.{length-joined, total-joined}
+use Rattle.transfer_shares.specs.Shares.{weight, weights, weight_share, shares_of, share_row_from, all_shares, reflectances_of, room_system}
+use Rattle.transfer_shares.proofs.RowPlaces.{length-rows, total-in_rows}
 use Rattle.transfer_shares.proofs.Totals.{shares_of-le}
 
 each_all : {F : Type 0} (duty : ℕ → Option F) (n : ℕ) → ((i : ℕ) → i < n → duty i ≡ None) → each n duty ≡ None
@@ -29,18 +29,18 @@ module _ (room : RoomSpec) where
   unfolding reflectances_of
   length-reflectances = length-map (patches room) (λ (patch : Patch). patch.reflectance)
 
-  length-row : (from : Patch) → length (row_from room from) ≡ length (reflectances_of room)
+  length-row : (from : Patch) → length (share_row_from room from) ≡ length (reflectances_of room)
   unfolding shares_of
-  length-row from = length-map (weights room from) (share (sum (weights room from))) ∙ (length-map (patches room) (weight from) ∙ sym length-reflectances)
+  length-row from = length-map (weights room from) (weight_share (sum (weights room from))) ∙ (length-map (patches room) (weight from) ∙ sym length-reflectances)
 
   square : length (all_shares room) ≡ length (reflectances_of room) * length (reflectances_of room)
   unfolding all_shares
-  square = length-joined (row_from room) (length (reflectances_of room)) length-row (patches room) ∙ ap (λ (k : ℕ). k * length (reflectances_of room)) (sym length-reflectances)
+  square = length-rows (share_row_from room) (length (reflectances_of room)) length-row (patches room) ∙ ap (λ (k : ℕ). k * length (reflectances_of room)) (sym length-reflectances)
 
-  total-le : (threshold i : ℕ) → i < length (patches room) → row_total (system_of room threshold) i ≤ 999999999
+  total-le : (threshold i : ℕ) → i < length (patches room) → row_total (room_system room threshold) i ≤ 999999999
   unfolding all_shares
   total-le threshold i h =
-      let total = total-joined (row_from room) (length (reflectances_of room)) length-row (patches room) i no_patch h in
+      let total = total-in_rows (share_row_from room) (length (reflectances_of room)) length-row (patches room) i no_patch h in
       let le = shares_of-le (weights room (get_or (patches room) i no_patch)) in
       omega arith
 
@@ -51,9 +51,9 @@ module _ (room : RoomSpec) where
       let limited = (valid i no_patch h).reflectance in
       omega arith
 
-  pub accepted : (n : ℕ) (all : List Patch) → n ≡ length (patches room) → 1 ≤ n → n ≤ 1024 → all ≡ patches room → All IsPatch all → (threshold : ℕ) → 1 ≤ threshold → threshold ≤ 10000000000000000 → first (system_duties (system_of room threshold)) ≡ None
-  accepted n all n_is some few all_is valid threshold positive limited =
-      let s = system_of room threshold in
+  pub system_accepted : (n : ℕ) (all : List Patch) → n ≡ length (patches room) → 1 ≤ n → n ≤ 1024 → all ≡ patches room → All IsPatch all → (threshold : ℕ) → 1 ≤ threshold → threshold ≤ 10000000000000000 → first (system_duties (room_system room threshold)) ≡ None
+  system_accepted n all n_is some few all_is valid threshold positive limited =
+      let s = room_system room threshold in
       let long = length-reflectances in
       let each_valid = All-same IsPatch (patches room) all (sym all_is) valid in
       rows_decide s (size_met s (omega arith) (omega arith) square) (threshold_met s positive limited)

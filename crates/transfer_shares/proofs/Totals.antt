@@ -4,27 +4,27 @@ use Rattle.std.specs.List.{sum}
 use Rattle.std.proofs.lemmas.Bool.{cases_lt, ne_eqb}
 use Rattle.std.proofs.lemmas.Nat.{mul-le, div-add-mod'}
 use Rattle.std.proofs.lemmas.List.Sums.{sum_by-cons}
-use Rattle.transfer_shares.specs.Shares.{share, shares_of}
+use Rattle.transfer_shares.specs.Shares.{weight_share, shares_of}
 
 -- where nothing weighs there are no shares
-no_shares : (weights : List ℕ) → sum (map (share 0) weights) ≡ 0
+no_shares : (weights : List ℕ) → sum (map (weight_share 0) weights) ≡ 0
 no_shares [] = refl
-no_shares (w ∷ weights) = let more = sum_by-cons (λ (x : ℕ). x) 0 (map (share 0) weights) in let none = no_shares weights in omega arith
+no_shares (w ∷ weights) = let more = sum_by-cons (λ (x : ℕ). x) 0 (map (weight_share 0) weights) in let none = no_shares weights in omega arith
 
 module _ (total : ℕ) (some : 0 < total) where
-  share-is : (w : ℕ) → share total w ≡ w * 999999999 / total
+  share-is : (w : ℕ) → weight_share total w ≡ w * 999999999 / total
   share-is w = rw (ne_eqb total 0 (λ e. omega arith)) refl
 
-  share-le : (w : ℕ) → share total w * total ≤ w * 999999999
+  share-le : (w : ℕ) → weight_share total w * total ≤ w * 999999999
   share-le w = let cut = div-add-mod' (w * 999999999) total in rw (share-is w) (omega arith)
 
   -- each share is cut, and so is their sum
-  shares-le : (weights : List ℕ) → sum (map (share total) weights) * total ≤ 999999999 * sum weights
+  shares-le : (weights : List ℕ) → sum (map (weight_share total) weights) * total ≤ 999999999 * sum weights
   shares-le [] = omega arith
   shares-le (w ∷ weights) =
       let first = share-le w in
       let others = shares-le weights in
-      let shares = sum_by-cons (λ (x : ℕ). x) (share total w) (map (share total) weights) in
+      let shares = sum_by-cons (λ (x : ℕ). x) (weight_share total w) (map (weight_share total) weights) in
       let both = sum_by-cons (λ (x : ℕ). x) w weights in
       rw (shares, both) (omega arith)
 
@@ -32,11 +32,11 @@ module _ (total : ℕ) (some : 0 < total) where
   below_whole s (inl h) le = let m = mul-le 1000000000 total s total (omega arith) (omega arith) in absurd (omega arith)
   below_whole s (inr h) le = h
 
-  some-le : (weights : List ℕ) → sum weights ≡ total → sum (map (share total) weights) ≤ 999999999
+  some-le : (weights : List ℕ) → sum weights ≡ total → sum (map (weight_share total) weights) ≤ 999999999
   some-le weights e =
-      below_whole (sum (map (share total) weights)) (cases_lt _ _) (subst (λ (t : ℕ). sum (map (share total) weights) * total ≤ 999999999 * t) e (shares-le weights))
+      below_whole (sum (map (weight_share total) weights)) (cases_lt _ _) (subst (λ (t : ℕ). sum (map (weight_share total) weights) * total ≤ 999999999 * t) e (shares-le weights))
 
-total-le : (total : ℕ) (weights : List ℕ) → sum weights ≡ total → sum (map (share total) weights) ≤ 999999999
+total-le : (total : ℕ) (weights : List ℕ) → sum weights ≡ total → sum (map (weight_share total) weights) ≤ 999999999
 total-le zero weights e = let none = no_shares weights in omega arith
 total-le (suc total) weights e = some-le (suc total) (omega arith) weights e
 
@@ -45,6 +45,6 @@ unfolding shares_of
 shares_of-le weights = total-le (sum weights) weights refl
 
 -- what the loop over the weights leaves
-pub shares_by_total : (weights shares : List ℕ) (total : ℕ) → total ≡ sum weights → shares ≡ map (share total) weights → shares ≡ shares_of weights
+pub shares_by_total : (weights shares : List ℕ) (total : ℕ) → total ≡ sum weights → shares ≡ map (weight_share total) weights → shares ≡ shares_of weights
 unfolding shares_of
-shares_by_total weights shares total e h = subst (λ (t : ℕ). shares ≡ map (share t) weights) e h
+shares_by_total weights shares total e h = subst (λ (t : ℕ). shares ≡ map (weight_share t) weights) e h

@@ -6,20 +6,20 @@ use Rattle.room_patches.specs.declared.patch.Patch.{Patch}
 use Rattle.room_patches.specs.Places.{squared_distance}
 use Rattle.room_patches.specs.Patches.{IsPatch}
 use Rattle.room_patches.proofs.Distances.{in_front_squared_le, squared_distance_comm}
-use Rattle.transfer_shares.specs.Shares.{ahead, weight}
+use Rattle.transfer_shares.specs.Shares.{distance_ahead, weight}
 
-module _ (from to : Patch) (a b : ℕ) (a_is : a ≡ ahead from to) (b_is : b ≡ ahead to from) where
+module _ (from to : Patch) (a b : ℕ) (a_is : a ≡ distance_ahead from to) (b_is : b ≡ distance_ahead to from) where
   -- one of the two doesn't lie before the other's plane
   pub weightless : (a ≡ 0) ⊎ (b ≡ 0) → 0 ≡ weight from to
   unfolding weight
-  weightless (inl e) = rw (and_left _ _ (le-ltb 0 (ahead from to) (omega arith))) refl
-  weightless (inr e) = rw (and_right _ _ (le-ltb 0 (ahead to from) (omega arith))) refl
+  weightless (inl e) = rw (and_left _ _ (le-ltb 0 (distance_ahead from to) (omega arith))) refl
+  weightless (inr e) = rw (and_right _ _ (le-ltb 0 (distance_ahead to from) (omega arith))) refl
 
   module _ (some_a : 0 < a) (some_b : 0 < b) (r : ℕ) (r_is : r ≡ squared_distance from.centre to.centre) where
     pub weighty : (area : ℕ) → area ≡ to.area → 1000000000000000 * a * b * area / (r * r) ≡ weight from to
     unfolding weight
     weighty area area_is =
-        rw (and_from _ _ (lt-ltb 0 (ahead from to) (omega arith)) (lt-ltb 0 (ahead to from) (omega arith)))
+        rw (and_from _ _ (lt-ltb 0 (distance_ahead from to) (omega arith)) (lt-ltb 0 (distance_ahead to from) (omega arith)))
         (λ k. 1000000000000000 * a_is k * b_is k * area_is k / (r_is k * r_is k))
 
     module _ (valid_from : IsPatch from) (valid_to : IsPatch to) where

@@ -10,8 +10,8 @@ use Rattle.room_patches.specs.Places.{squared_distance}
 use Rattle.flux_system.specs.System.{FluxSystem}
 
 -- how far the centre of the second patch lies in front of the first
-abbrev pub ahead : Patch → Patch → ℕ
-ahead from to = in_front from to.centre
+abbrev pub distance_ahead : Patch → Patch → ℕ
+distance_ahead from to = in_front from to.centre
 
 -- what the flux from one patch to another weighs: the two cosines times the other's area over the square of the distance
 -- of the centres, times 10^15 and cut; lengths count half-millimetres and areas square millimetres. The weight is 0
@@ -19,8 +19,8 @@ ahead from to = in_front from to.centre
 -- plane.
 unfoldable pub weight : Patch → Patch → ℕ
 weight from to =
-    if nat_lt 0 (ahead from to) && nat_lt 0 (ahead to from)
-    then 10 ^ 15 * ahead from to * ahead to from * to.area / (squared_distance from.centre to.centre * squared_distance from.centre to.centre)
+    if nat_lt 0 (distance_ahead from to) && nat_lt 0 (distance_ahead to from)
+    then 10 ^ 15 * distance_ahead from to * distance_ahead to from * to.area / (squared_distance from.centre to.centre * squared_distance from.centre to.centre)
     else 0
 
 -- the weights from a patch to all patches of the room
@@ -28,29 +28,29 @@ abbrev pub weights : RoomSpec → Patch → List ℕ
 weights room from = map (weight from) (patches room)
 
 -- the share that a weight has in a sum of weights, cut; none where nothing weighs
-abbrev pub share : ℕ → ℕ → ℕ
-share total weight = if total == 0 then 0 else weight * (10 ^ 9 - 1) / total
+abbrev pub weight_share : ℕ → ℕ → ℕ
+weight_share total weight = if total == 0 then 0 else weight * (10 ^ 9 - 1) / total
 
 -- the share that each of some weights has in their sum
 unfoldable pub shares_of : List ℕ → List ℕ
-shares_of weights = map (share (sum weights)) weights
+shares_of weights = map (weight_share (sum weights)) weights
 
 -- the shares from a patch to all patches of the room
-abbrev pub row_from : RoomSpec → Patch → List ℕ
-row_from room from = shares_of (weights room from)
+abbrev pub share_row_from : RoomSpec → Patch → List ℕ
+share_row_from room from = shares_of (weights room from)
 
 -- the shares from patch i
-abbrev pub row_of : RoomSpec → ℕ → List ℕ
-row_of room i = unwrap_or (option_map (row_from room) (slice_get (patches room) i)) []
+abbrev pub room_share_row : RoomSpec → ℕ → List ℕ
+room_share_row room i = unwrap_or (option_map (share_row_from room) (slice_get (patches room) i)) []
 
 -- all shares, a row for each patch
 unfoldable pub all_shares : RoomSpec → List ℕ
-all_shares room = flat_map (row_from room) (patches room)
+all_shares room = flat_map (share_row_from room) (patches room)
 
 -- the reflectance of each patch
 unfoldable pub reflectances_of : RoomSpec → List ℕ
 reflectances_of room = map (λ patch. patch.reflectance) (patches room)
 
 -- the flux system of a room, with a threshold
-abbrev pub system_of : RoomSpec → ℕ → FluxSystem
-system_of room threshold = record { threshold = threshold; reflectance = reflectances_of room; shares = all_shares room }
+abbrev pub room_system : RoomSpec → ℕ → FluxSystem
+room_system room threshold = record { threshold = threshold; reflectance = reflectances_of room; shares = all_shares room }

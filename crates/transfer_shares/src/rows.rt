@@ -3,7 +3,7 @@ ghost use Rattle.std.specs.Prelude.{◌≡◌, ℕ, ◌-◌, ◌<◌, ◌≤◌,
 ghost use Rattle.duties.specs.Duties.{first};
 ghost use Rattle.room_patches.specs.Patches.{patches, IsPatch};
 ghost use Rattle.flux_system.specs.Validity.{system_duties};
-ghost use Rattle.transfer_shares.specs.Shares.{weight, shares_of, row_of, all_shares, reflectances_of, system_of};
+ghost use Rattle.transfer_shares.specs.Shares.{weight, shares_of, room_share_row, all_shares, reflectances_of, room_system};
 
 use crate::sharing::share_out;
 use crate::weighing::weigh;
@@ -14,7 +14,7 @@ use std::alloc::{AllocError, Global};
 pub fn shares_row(room: &Room, i: usize, into: &mut [u32])
     requires row { i < length (patches room.now) }
     requires places { length into.old ≡ length (patches room.now) }
-    ensures row { into.new ≡ row_of room.now i }
+    ensures row { into.new ≡ room_share_row room.now i }
     ensures total { sum into.new ≤ 10 ^ 9 - 1 }
 {
     prove_eq!(into.len(), room.len());
@@ -26,7 +26,7 @@ pub fn shares_row(room: &Room, i: usize, into: &mut [u32])
 /// threshold within the limits is accepted.
 pub fn all_rows(alloc: Global, room: &Room) -> Result<Vec<u32>, AllocError>
     ensures rows { IfOk result (λ shares. shares.items ≡ all_shares room.now) }
-    ensures accepted { (threshold : ℕ) → 1 ≤ threshold → threshold ≤ 10 ^ 16 → first (system_duties (system_of room.now threshold)) ≡ None }
+    ensures accepted { (threshold : ℕ) → 1 ≤ threshold → threshold ≤ 10 ^ 16 → first (system_duties (room_system room.now threshold)) ≡ None }
 {
     let n = room.len();
     let patches = room.patches();

@@ -1,15 +1,15 @@
 // The shares that weights have in their sum.
 ghost use Rattle.std.specs.Prelude.{◌≡◌, ◌-◌, ◌*◌, ◌≤◌, ◌^◌, length, sum};
-ghost use Rattle.transfer_shares.specs.Shares.{share, shares_of};
+ghost use Rattle.transfer_shares.specs.Shares.{weight_share, shares_of};
 
 /// What the shares of a row sum to at most: it is below 10^9, so that no row is whole.
 const MOST_TOTAL: u128 = 999_999_999;
 
 // The share that a weight has in a sum of weights.
-fn share(total: u128, weight: u128) -> u32
+fn weight_share(total: u128, weight: u128) -> u32
     requires part { weight ≤ total }
     requires most { total ≤ 1024 * 10 ^ 25 }
-    ensures { result ≡ share total weight }
+    ensures { result ≡ weight_share total weight }
 {
     if total == 0 {
         return 0;
@@ -26,6 +26,6 @@ pub(crate) fn share_out(weights: &[u128], total: u128, into: &mut [u32])
     ensures total { sum into.new ≤ 10 ^ 9 - 1 }
 {
     for (i, weight) in weights.iter().enumerate() {
-        into[i] = share(total, *weight);
+        into[i] = weight_share(total, *weight);
     }
 }

@@ -1,4 +1,4 @@
-use Rattle.enclosure.specs.Fractions.{IsGreatest}
+use Rattle.enclosure.specs.Shapes.{IsGreatest}
 use Rattle.enclosure.proofs.rises.greatest_at.Given as goal
 
 -- the greatest from the patches so far

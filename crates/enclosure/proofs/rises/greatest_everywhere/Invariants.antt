@@ -1,4 +1,4 @@
-use Rattle.enclosure.specs.Fractions.{AreGreatest}
+use Rattle.enclosure.specs.Shapes.{AreGreatest}
 use Rattle.enclosure.proofs.rises.greatest_everywhere.Given as goal
 
 -- the greatest from the patches so far

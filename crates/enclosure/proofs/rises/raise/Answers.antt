@@ -1,12 +1,12 @@
 use Rattle.std.proofs.Common.{◌≢◌, ℕ, ◌+◌, ◌<◌, length, get_or, arith, below_more, get_or-set_other, get_or-set_same, length-set, slice_set}
 use Rattle.flux_system.specs.System.{patches}
-use Rattle.enclosure.specs.Fractions.{IsGreatest}
-use Rattle.enclosure.proofs.Greatest.{length-row_of, coefficient_in, one_more}
+use Rattle.enclosure.specs.Shapes.{IsGreatest}
+use Rattle.enclosure.proofs.Greatest.{length-share_row, coefficient_in, one_more}
 use Rattle.enclosure.proofs.rises.raise.Goals as goal
 
 pub prove_eq-unreachable-requires : goal.prove_eq-unreachable-requires
 prove_eq-unreachable-requires c =
-    let long = length-row_of c.args.system.now c.args.i c.row-row.result.now c.row-row.ensures in
+    let long = length-share_row c.args.system.now c.args.i c.row-row.result.now c.row-row.ensures in
     let count = c.requires.before.count in
     c.if-prove_eq.true (omega arith)
 

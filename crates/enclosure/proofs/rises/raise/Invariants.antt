@@ -1,7 +1,7 @@
 use Rattle.std.proofs.Common.{◌≡◌, ℕ, ◌+◌, ◌<◌, ◌≤◌, length, slice_index_or}
 use Rattle.flux_system.specs.System.{patches}
 use Rattle.enclosure.specs.declared.fraction.Fraction.{Fraction}
-use Rattle.enclosure.specs.Fractions.{IsGreatest}
+use Rattle.enclosure.specs.Shapes.{IsGreatest}
 use Rattle.enclosure.proofs.rises.raise.Given as goal
 
 -- patch i is counted in at the patches so far

@@ -5,7 +5,7 @@ use Rattle.lux_lines.specs.Places.{Piece}
 use Rattle.lux_lines.specs.Pieces.{line_piece}
 use Rattle.eulumdat_reader.specs.declared.faults.LdtFault.TheVariants.{Memory}
 use Rattle.eulumdat_reader.specs.Rows.{all_lines, blank_row}
-use Rattle.lux_lines.proofs.Left.{left_is, nothing_left}
+use Rattle.laws.proofs.Left.{left_is, nothing_left}
 use Rattle.eulumdat_reader.proofs.Walking.{blanks_behind}
 use Rattle.eulumdat_reader.proofs.fields.read_end.Goals as goal
 

@@ -5,8 +5,8 @@ use Rattle.std.proofs.lemmas.List.Elements.{All-push}
 use Rattle.eulumdat_reader.specs.declared.faults.LdtFault.TheVariants.{Memory}
 use Rattle.eulumdat_reader.specs.Rows.{all_lines}
 use Rattle.eulumdat_reader.specs.Planes.{is_outside}
-use Rattle.eulumdat_reader.specs.Angles.{angle, angle_duty, least_behind}
-use Rattle.eulumdat_reader.proofs.Growing.{angles_more, angles_stay, duty_outside, duty_inside, no_angles, rising_push, count_outside, count_inside}
+use Rattle.eulumdat_reader.specs.Angles.{angle_at, angle_duty, least_behind}
+use Rattle.eulumdat_reader.proofs.Growing.{angles_more, angles_stay, duty_outside, duty_inside, no_angles, rising_behind, count_outside, count_inside}
 use Rattle.eulumdat_reader.proofs.lists.read_angles.Goals as goal
 
 pub loop-at-init : goal.loop-at-init
@@ -62,16 +62,16 @@ loop-at-preserved c =
     let place : c.loop-at.source.read + 1 ≡ c.args.source.now.read + 1 + c.loop-at.at = omega (arith, c.loop-at.invariant.read) in
     let duty = duty_outside c.args.unread (all_lines c.args.source.now) (c.args.source.now.read + 1) c.loop-at.at c.args.list c.args.most outside in
     let here = c.in_ok-read_angle.ensures in
-    let items : c.read_angle.new.angles.items ≡ c.loop-at.angles.items ++ angle (all_lines c.args.source.now) (c.args.source.now.read + 1) c.loop-at.at ∷ [] = rw (c.loop-at.invariant.text, place) at here.value in
-    let least : least_behind c.loop-at.angles.items ≤ angle (all_lines c.args.source.now) (c.args.source.now.read + 1) c.loop-at.at = rw (c.loop-at.invariant.text, place) at here.least in
-    let most : angle (all_lines c.args.source.now) (c.args.source.now.read + 1) c.loop-at.at ≤ c.args.most = rw (c.loop-at.invariant.text, place) at here.most in
+    let items : c.read_angle.new.angles.items ≡ c.loop-at.angles.items ++ angle_at (all_lines c.args.source.now) (c.args.source.now.read + 1) c.loop-at.at ∷ [] = rw (c.loop-at.invariant.text, place) at here.value in
+    let least : least_behind c.loop-at.angles.items ≤ angle_at (all_lines c.args.source.now) (c.args.source.now.read + 1) c.loop-at.at = rw (c.loop-at.invariant.text, place) at here.least in
+    let most : angle_at (all_lines c.args.source.now) (c.args.source.now.read + 1) c.loop-at.at ≤ c.args.most = rw (c.loop-at.invariant.text, place) at here.most in
     record {
       text = here.same ∙ c.loop-at.invariant.text;
       read = omega (arith, here.next, c.loop-at.invariant.read);
-      items = items ∙ (ap (λ (r : List ℕ). r ++ angle (all_lines c.args.source.now) (c.args.source.now.read + 1) c.loop-at.at ∷ []) c.loop-at.invariant.items
+      items = items ∙ (ap (λ (r : List ℕ). r ++ angle_at (all_lines c.args.source.now) (c.args.source.now.read + 1) c.loop-at.at ∷ []) c.loop-at.invariant.items
           ∙ sym (angles_more c.args.unread (all_lines c.args.source.now) (c.args.source.now.read + 1) c.loop-at.at outside));
       len = rw (ap length items ∙ length_push c.loop-at.angles.items _) (count_outside c.args.unread c.loop-at.at (length c.loop-at.angles.items) c.requires.forth outside c.loop-at.invariant.len);
-      rising = rw items (rising_push c.loop-at.angles.items _ c.loop-at.invariant.rising least);
+      rising = rw items (rising_behind c.loop-at.angles.items _ c.loop-at.invariant.rising least);
       limited = rw items (All-push (λ (a : ℕ). a ≤ c.args.most) c.loop-at.angles.items _ c.loop-at.invariant.limited most);
       met = each_more (angle_duty c.args.list c.args.most c.args.unread (all_lines c.args.source.now) (c.args.source.now.read + 1)) c.loop-at.at c.loop-at.invariant.met
           ∙ (rw (duty, ← c.loop-at.invariant.items) (rw (c.loop-at.invariant.text, place) at here.answer));

@@ -1,7 +1,8 @@
 use Rattle.std.proofs.Common.{◌≡◌, ◌∙◌, ◌+◌, ◌++◌, ◌∷◌, [], ◌≤◌, ◌^◌, ℕ, length, ap, sym, refl, arith}
 use Rattle.duties.proofs.Orders.{each_hands_on, each_more, each_none}
 use Rattle.eulumdat_reader.specs.declared.faults.LdtFault.TheVariants.{Memory}
-use Rattle.eulumdat_reader.specs.Intensities.{value_duty, intensity_of}
+use Rattle.photo_numbers.specs.Intensities.{intensity_of}
+use Rattle.eulumdat_reader.specs.Intensities.{value_duty}
 use Rattle.eulumdat_reader.specs.Rows.{all_lines, number_at}
 use Rattle.std.proofs.lemmas.List.{length_push}
 use Rattle.std.proofs.lemmas.List.Elements.{All-push}
@@ -33,7 +34,7 @@ loop-at-preserved c =
     let same = c.loop-at.invariant.text in
     let place : c.loop-at.source.read + 1 ≡ c.args.source.now.read + 1 + c.loop-at.at = omega (arith, c.loop-at.invariant.read) in
     let here = c.in_ok-value.ensures in
-    let is : c.in_ok-value.value ≡ intensity_of c.args.scale (number_at (all_lines c.args.source.now) (c.args.source.now.read + 1 + c.loop-at.at)) = rw (same, place) at here.value in
+    let is : c.in_ok-value.value ≡ intensity_of (10 ^ 12) c.args.scale (number_at (all_lines c.args.source.now) (c.args.source.now.read + 1 + c.loop-at.at)) = rw (same, place) at here.value in
     let items = c.in_ok-push.ensures.items in
     record {
       text = here.same ∙ same;

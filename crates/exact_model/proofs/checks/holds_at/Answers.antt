@@ -4,13 +4,13 @@ use Rattle.flux_system.specs.Sums.{sum_below}
 use Rattle.flux_system.specs.System.{FluxSystem, patches, scale, coefficient}
 use Rattle.flux_system.specs.Validity.{IsSystem}
 use Rattle.flux_system.proofs.Sums.{le-sum}
-use Rattle.flux_system.proofs.Keeping.{passed-lt}
+use Rattle.flux_system.proofs.Keeping.{passed_part-lt}
 use Rattle.exact_model.proofs.checks.holds_at.Goals as goal
 
 -- what one patch passes on to another is below 2^64 times the scale
 term_fits : (s : FluxSystem) → IsSystem s → (i j x a b : ℕ) → i < patches s → j < patches s → a ≡ coefficient s i j → b ≡ x → x < 18446744073709551616 → a * b ≤ 18446744073709551616000000000000
 term_fits s valid i j x a b from to a_is b_is fits =
-    let lt = passed-lt s valid i from in
+    let lt = passed_part-lt s valid i from in
     let one = le-sum (patches s) (coefficient s i) j to in
     let m = mul-le a b 1000000000000 18446744073709551616 (omega arith) (omega arith) in
     omega arith
@@ -36,13 +36,13 @@ loop-from-preserved c =
       small = omega arith;
     }
   where
-    next : (reaches term x t sum more : ℕ) → reaches ≡ x + sum → term ≡ t → more ≡ sum + t → reaches + term ≡ x + more
-    next reaches term x t sum more e f g = omega arith
+    next : (reaching_flux term x t sum more : ℕ) → reaching_flux ≡ x + sum → term ≡ t → more ≡ sum + t → reaching_flux + term ≡ x + more
+    next reaching_flux term x t sum more e f g = omega arith
 
 pub returns : goal.returns
 returns c =
     let s = c.args.system.now in
     let end : c.loop-from.from ≡ patches s = omega arith in
-    let reaches = c.loop-from.invariant.so_far ∙ ap (λ (m : ℕ). c.args.den * (scale * c.args.direct) + sum_below m (λ i. coefficient s i c.args.patch * get_or c.args.num.now i 0)) end in
+    let reaching_flux = c.loop-from.invariant.so_far ∙ ap (λ (m : ℕ). c.args.den * (scale * c.args.direct) + sum_below m (λ i. coefficient s i c.args.patch * get_or c.args.num.now i 0)) end in
     let left = ap (λ (t : ℕ). scale * t) c.from-3.ensures in
-    (λ t. sym left ∙ (eqb-true _ _ t ∙ reaches), λ e. eq-eqb _ _ (left ∙ (e ∙ sym reaches)))
+    (λ t. sym left ∙ (eqb-true _ _ t ∙ reaching_flux), λ e. eq-eqb _ _ (left ∙ (e ∙ sym reaching_flux)))

@@ -3,8 +3,9 @@ use Rattle.std.specs.List.{sum}
 use Rattle.std.proofs.lemmas.List.FromFn.{length-map-range_with_len, map-range_with_len_more}
 use Rattle.duties.proofs.Orders.{each_none, each_more, each_fails}
 use Rattle.flux_system.specs.System.{FluxSystem, patches, share, row_total, keep}
-use Rattle.flux_system.specs.Validity.{numbers_of, row_duty}
-use Rattle.flux_system.proofs.Sums.{sum-listed}
+use Rattle.flux_system.specs.Validity.{row_duty}
+use Rattle.flux_system.specs.Shapes.{system_without_threshold}
+use Rattle.flux_system.proofs.Sums.{sum-range}
 use Rattle.flux_system.proofs.Keeping.{kept-is}
 use Rattle.flux_system.proofs.Tests.{row_met, row_refused}
 use Rattle.flux_system.proofs.kept.kept_rows.Goals as goal
@@ -20,14 +21,14 @@ total_of-total-requires c =
 
 pub returns-then-total-ge-WHOLE_ROW-clause-answer : goal.returns-then-total-ge-WHOLE_ROW-clause-answer
 returns-then-total-ge-WHOLE_ROW-clause-answer c =
-    let s : FluxSystem = numbers_of c.args.reflectance.now c.args.shares.now in
-    let total : c.total_of-total.result ≡ row_total s c.loop-patch.patch = c.total_of-total.ensures ∙ (ap sum c.row_at.ensures ∙ sum-listed (share s c.loop-patch.patch) (patches s)) in
+    let s : FluxSystem = system_without_threshold c.args.reflectance.now c.args.shares.now in
+    let total : c.total_of-total.result ≡ row_total s c.loop-patch.patch = c.total_of-total.ensures ∙ (ap sum c.row_at.ensures ∙ sum-range (share s c.loop-patch.patch) (patches s)) in
     λ _. each_fails (row_duty s) (patches s) c.loop-patch.patch _ c.loop-patch-test.true c.loop-patch.invariant.met (row_refused s c.loop-patch.patch c.total_of-total.result total c.if-total-ge-WHOLE_ROW.true)
 
 pub loop-patch-preserved : goal.loop-patch-preserved
 loop-patch-preserved c =
-    let s : FluxSystem = numbers_of c.args.reflectance.now c.args.shares.now in
-    let total : c.total_of-total.result ≡ row_total s c.loop-patch.patch = c.total_of-total.ensures ∙ (ap sum c.row_at.ensures ∙ sum-listed (share s c.loop-patch.patch) (patches s)) in
+    let s : FluxSystem = system_without_threshold c.args.reflectance.now c.args.shares.now in
+    let total : c.total_of-total.result ≡ row_total s c.loop-patch.patch = c.total_of-total.ensures ∙ (ap sum c.row_at.ensures ∙ sum-range (share s c.loop-patch.patch) (patches s)) in
     record {
       kept = c.in_ok-push.ensures.items
           ∙ ((λ k. c.loop-patch.invariant.kept k ++ kept-is s c.loop-patch.patch _ c.total_of-total.result c.from.ensures total k ∷ [])

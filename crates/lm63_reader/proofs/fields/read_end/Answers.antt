@@ -1,5 +1,5 @@
 use Rattle.std.proofs.Common.{sym}
-use Rattle.lux_lines.specs.TokenWalks.{all_tokens}
+use Rattle.lux_lines.specs.Walks.{all_tokens}
 use Rattle.lux_lines.specs.TokenPieces.{token_piece}
 use Rattle.lm63_reader.proofs.Walking.{no_token_none, no_token_some}
 use Rattle.lm63_reader.proofs.fields.read_end.Goals as goal

@@ -1,6 +1,6 @@
 use Rattle.std.proofs.Common.{◌≡◌, ◌∙◌, false, sym, ap}
 use Rattle.duties.proofs.Orders.{hands_on, this_met, this_fails, unless_fails}
-use Rattle.lux_lines.specs.TokenWalks.{all_tokens}
+use Rattle.lux_lines.specs.Walks.{all_tokens}
 use Rattle.lm63_reader.specs.declared.faults.LmFault.TheVariants.{Memory}
 use Rattle.photo_numbers.specs.Numbers.{is_whole_within}
 use Rattle.lm63_reader.specs.Fields.{field, number_at}

@@ -3,7 +3,7 @@ use Rattle.std.specs.Prelude.{find}
 use Rattle.lux_lines.specs.Lines.{lines}
 use Rattle.lux_lines.specs.Pieces.{line_piece}
 use Rattle.lm63_reader.specs.Front.{is_tilt}
-use Rattle.lux_lines.proofs.Left.{left_is, nothing_left}
+use Rattle.laws.proofs.Left.{left_is, nothing_left}
 use Rattle.lm63_reader.proofs.Walking.{find_here, find_later}
 use Rattle.lm63_reader.proofs.front.find_tilt.Goals as goal
 

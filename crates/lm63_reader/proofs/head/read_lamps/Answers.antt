@@ -2,7 +2,7 @@ use Rattle.std.proofs.Common.{◌∙◌, ◌+◌}
 use Rattle.duties.proofs.Orders.{hands_on, last_decides, this_met, this_fails}
 use Rattle.lm63_reader.specs.declared.faults.LmFault.TheVariants.{Memory, Factor}
 use Rattle.duties.specs.Duties.{unless}
-use Rattle.lux_lines.specs.TokenWalks.{all_tokens}
+use Rattle.lux_lines.specs.Walks.{all_tokens}
 use Rattle.lux_num.specs.Scaled.{is_limited}
 use Rattle.lm63_reader.specs.Fields.{field}
 use Rattle.lm63_reader.specs.Heads.{lamp_duties}

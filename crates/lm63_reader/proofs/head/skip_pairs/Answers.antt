@@ -1,6 +1,6 @@
 use Rattle.std.proofs.Common.{◌≡◌, ◌∙◌, ◌+◌, ◌*◌, arith}
 use Rattle.duties.proofs.Orders.{hands_on, last_decides, this_met, this_fails}
-use Rattle.lux_lines.specs.TokenWalks.{all_tokens}
+use Rattle.lux_lines.specs.Walks.{all_tokens}
 use Rattle.lm63_reader.specs.declared.faults.LmFault.TheVariants.{Memory}
 use Rattle.photo_numbers.specs.Numbers.{count_of}
 use Rattle.lm63_reader.specs.Fields.{any_numbers, number_at}

@@ -1,8 +1,9 @@
 use Rattle.std.proofs.Common.{◌≡◌, ◌∙◌, ◌+◌, ◌++◌, ◌∷◌, [], ◌≤◌, ◌^◌, ℕ, length, ap, sym, refl, arith}
 use Rattle.duties.proofs.Orders.{each_hands_on, each_more, each_none}
-use Rattle.lux_lines.specs.TokenWalks.{all_tokens}
+use Rattle.lux_lines.specs.Walks.{all_tokens}
 use Rattle.lm63_reader.specs.declared.faults.LmFault.TheVariants.{Memory}
-use Rattle.lm63_reader.specs.Intensities.{value_duty, intensity_of}
+use Rattle.photo_numbers.specs.Intensities.{intensity_of}
+use Rattle.lm63_reader.specs.Intensities.{value_duty}
 use Rattle.lm63_reader.specs.Fields.{number_at}
 use Rattle.std.proofs.lemmas.List.{length_push}
 use Rattle.std.proofs.lemmas.List.Elements.{All-push}
@@ -35,7 +36,7 @@ loop-at-preserved c =
     let same = c.loop-at.invariant.all in
     let place = c.loop-at.invariant.read in
     let here = c.in_ok-value.ensures in
-    let is : c.in_ok-value.value ≡ intensity_of c.args.factor (number_at (all_tokens c.args.source.now) (c.args.source.now.read + c.loop-at.at)) = rw (same, place) at here.value in
+    let is : c.in_ok-value.value ≡ intensity_of (10 ^ 9) c.args.factor (number_at (all_tokens c.args.source.now) (c.args.source.now.read + c.loop-at.at)) = rw (same, place) at here.value in
     let items = c.in_ok-push.ensures.items in
     record {
       all = here.same ∙ same;

@@ -1,7 +1,7 @@
 use Rattle.std.proofs.Common.{◌≡◌, ◌+◌, ◌≤◌, ◌^◌, None, length}
 use Rattle.std.specs.Prelude.{All}
 use Rattle.duties.specs.Duties.{each}
-use Rattle.lux_lines.specs.TokenWalks.{all_tokens}
+use Rattle.lux_lines.specs.Walks.{all_tokens}
 use Rattle.lm63_reader.specs.Intensities.{intensities, value_duty}
 use Rattle.lm63_reader.proofs.lists.read_values.Given as goal
 

@@ -1,12 +1,13 @@
 use Rattle.std.proofs.Common.{◌≡◌, ◌≢◌, ◌+◌, ◌∙◌, Err, length, drop, sym, ap}
 use Rattle.std.proofs.lemmas.List.{take_rest}
-use Rattle.lux_lines.specs.TokenWalks.{all_tokens}
+use Rattle.lux_lines.specs.Walks.{all_tokens}
 use Rattle.lux_lines.specs.Pieces.{line_piece}
 use Rattle.lm63_reader.specs.declared.faults.LmFault.{LmFault}
 use Rattle.lm63_reader.specs.declared.faults.LmFault.TheVariants.{Memory}
 use Rattle.lm63_reader.specs.Front.{tokens_behind}
 use Rattle.lm63_reader.specs.Lm63.{photometry_of}
-use Rattle.lm63_reader.proofs.Whole.{err_is, front_fails, tokens_are, reading_ok, reading_err}
+use Rattle.laws.proofs.Results.{err_is}
+use Rattle.lm63_reader.proofs.Whole.{front_fails, tokens_are, reading_ok, reading_err}
 use Rattle.lm63_reader.proofs.reader.read_body.Goals as goal
 
 pub returns-in_err-tilt-clause-fault : goal.returns-in_err-tilt-clause-fault

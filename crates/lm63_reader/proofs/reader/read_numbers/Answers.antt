@@ -1,19 +1,19 @@
 use Rattle.std.proofs.Common.{◌≡◌, ◌∙◌, ◌+◌, ℕ, zero-add, ap}
 use Rattle.duties.specs.Duties.{first}
 use Rattle.duties.proofs.Orders.{hands_on, last_decides, this_met, this_fails}
-use Rattle.lux_lines.specs.TokenWalks.{all_tokens}
+use Rattle.lux_lines.specs.Walks.{all_tokens}
 use Rattle.lm63_reader.specs.declared.faults.LmFault.TheVariants.{Memory}
 use Rattle.lm63_reader.specs.Layouts.{head_layout}
-use Rattle.lm63_reader.specs.Lm63.{layout, head_place, number_duties, list_duties}
+use Rattle.lm63_reader.specs.Lm63.{layout, head_place, token_duties, list_duties}
 use Rattle.lm63_reader.proofs.Whole.{layout_is}
 use Rattle.lm63_reader.proofs.reader.read_numbers.Goals as goal
 
 pub returns-in_err-skip_tilt-clause-answer : goal.returns-in_err-skip_tilt-clause-answer
-unfolding number_duties
+unfolding token_duties
 returns-in_err-skip_tilt-clause-answer c = hands_on Memory _ _ _ _ c.from_residual.ensures.1 (rw c.requires at c.in_err-skip_tilt.ensures.answer) (λ h. this_fails _ _ _ h)
 
 pub returns-in_err-head-clause-answer : goal.returns-in_err-head-clause-answer
-unfolding number_duties
+unfolding token_duties
 returns-in_err-head-clause-answer c =
     let a = c.in_ok-skip_tilt.ensures in
     let place : c.skip_tilt.new.source.read ≡ head_place c.args.included (all_tokens c.args.source) = (rw c.requires at a.next) ∙ zero-add (head_place c.args.included (all_tokens c.args.source)) in
@@ -21,7 +21,7 @@ returns-in_err-head-clause-answer c =
     (λ h. this_met _ _ (rw c.requires at a.answer) ∙ this_fails _ _ _ h)
 
 pub returns-clause-answer : goal.returns-clause-answer
-unfolding number_duties
+unfolding token_duties
 returns-clause-answer c =
     let a = c.in_ok-skip_tilt.ensures in
     let b = c.in_ok-head.ensures in

@@ -2,7 +2,7 @@ use Rattle.std.proofs.Common.{◌≡◌, ◌<◌, false, length, drop, get_or, a
 use Rattle.std.specs.List.{prefix_len}
 use Rattle.std.proofs.lemmas.List.{take_rest}
 use Rattle.std.proofs.lemmas.List.Sums.{prefix_len_is}
-use Rattle.lux_lines.specs.Ends.{is_space, trimmed_end}
+use Rattle.lux_lines.specs.Ends.{is_space, without_suffix}
 use Rattle.lux_lines.proofs.ends.trim.Goals as goal
 use Rattle.lux_lines.proofs.ends.trim.Goals.{then-loop-at-test+else-is_space, else-loop-at-test}
 
@@ -14,4 +14,4 @@ returns c =
       | else-loop-at-test w ↦ absurd (omega arith)
     ] in
     let at : prefix_len is_space c.args.text.now ≡ c.loop-at.at = prefix_len_is is_space c.args.text.now c.loop-at.at 0 c.loop-at.invariant.within c.loop-at.invariant.passed stops in
-    c.trim_end.ensures ∙ (ap (trimmed_end is_space) (take_rest c.args.text.now c.loop-at.at) ∙ ap (λ k. trimmed_end is_space (drop k c.args.text.now)) (sym at))
+    c.trim_end.ensures ∙ (ap (without_suffix is_space) (take_rest c.args.text.now c.loop-at.at) ∙ ap (λ k. without_suffix is_space (drop k c.args.text.now)) (sym at))

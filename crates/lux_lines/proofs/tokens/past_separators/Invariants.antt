@@ -1,6 +1,6 @@
 use Rattle.std.proofs.Common.{◌≡◌, ℕ, ◌+◌, ◌-◌, ◌<◌, ◌≤◌, ◌^◌, length}
 use Rattle.lux_lines.specs.Tokens.{tokens_from}
-use Rattle.lux_lines.specs.TokenWalks.{IsBetweenTokens}
+use Rattle.lux_lines.specs.Cursors.{IsBetweenTokens}
 use Rattle.lux_lines.proofs.tokens.past_separators.Given as goal
 
 abbrev pub invariant-loop-at : goal.invariant-loop-at

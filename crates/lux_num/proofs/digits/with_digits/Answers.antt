@@ -1,7 +1,8 @@
 use Rattle.std.proofs.Common.{◌≡◌, ℕ, ◌+◌, ◌-◌, ◌*◌, fold, length, List, ap, sym, ◌∙◌, arith}
 use Rattle.std.proofs.lemmas.List.{take_all}
 use Rattle.std.proofs.lemmas.List.Sums.{fold_more}
-use Rattle.lux_num.proofs.Reading.{one_more_digit, digit_at, room_for_digit}
+use Rattle.laws.proofs.Digits.{one_more_digit}
+use Rattle.lux_num.proofs.Reading.{digit_at, room_for_digit}
 use Rattle.lux_num.proofs.digits.with_digits.Goals as goal
 
 pub overflow_mul-total : goal.overflow_mul-total

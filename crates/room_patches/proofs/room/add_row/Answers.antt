@@ -1,6 +1,6 @@
 use Rattle.std.proofs.Common.{◌++◌, ◌∷◌, [], ◌∙◌}
 use Rattle.room_patches.specs.Patches.{patch_at}
-use Rattle.room_patches.proofs.Rows.{values-more}
+use Rattle.laws.proofs.Ranges.{values-more}
 use Rattle.room_patches.proofs.room.add_row.Goals as goal
 
 pub loop-column-preserved : goal.loop-column-preserved

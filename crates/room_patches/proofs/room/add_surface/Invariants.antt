@@ -1,7 +1,7 @@
 use Rattle.std.proofs.Common.{◌≡◌, ◌++◌}
 use Rattle.std.specs.List.{range_with_len, flat_map}
-use Rattle.room_patches.specs.Patches.{row_of}
+use Rattle.room_patches.specs.Patches.{patch_row}
 use Rattle.room_patches.proofs.room.add_surface.Given as goal
 
 abbrev pub invariant-loop-row : goal.invariant-loop-row
-invariant-loop-row l = l.all.items ≡ l.initial.all.items ++ flat_map (row_of l.room l.surface) (range_with_len 0 l.row)
+invariant-loop-row l = l.all.items ≡ l.initial.all.items ++ flat_map (patch_row l.room l.surface) (range_with_len 0 l.row)

@@ -2,7 +2,7 @@ use Rattle.std.proofs.Common.{List, ℕ, ◌*◌, ◌/◌, ◌%◌, ◌<◌, len
 use Rattle.std.proofs.lemmas.List.FromFn.{fill_by_all}
 use Rattle.flux_system.specs.System.{patches, scale}
 use Rattle.shot_core.specs.Shots.{parts_after}
-use Rattle.shot_core.proofs.Listed.{written_more, written_rest}
+use Rattle.shot_core.proofs.Lists.{front_more, rest_more}
 use Rattle.shot_core.proofs.Booking.{row_length, row_at, share-lt, parts_are}
 use Rattle.shot_core.proofs.parts.book.Goals as goal
 
@@ -33,12 +33,12 @@ loop-target-preserved c =
     let f : ℕ → ℕ = λ k. parts_after s c.args.patch c.args.t c.args.fractions.now k in
     record {
       long = ap length c.set.ensures ∙ (length-set c.loop-target.fractions j c.split_parts-amount.result.1 ∙ i.long);
-      amounts_done = written_more c.loop-target.amounts (λ k. f k / scale) j c.split_parts-amount.result.0 (let same = c.requires.amounts in omega arith) i.amounts_done
+      amounts_done = front_more c.loop-target.amounts (λ k. f k / scale) j c.split_parts-amount.result.0 (let same = c.requires.amounts in omega arith) i.amounts_done
           (c.split_parts-amount.ensures.amount ∙ ap (λ (x : ℕ). x / scale) is);
       fractions_done = λ k h. ap (λ (xs : List ℕ). get_or xs k 0) c.set.ensures
-          ∙ written_more c.loop-target.fractions (λ k. f k % scale) j c.split_parts-amount.result.1 (let same = i.long in omega arith) i.fractions_done
+          ∙ front_more c.loop-target.fractions (λ k. f k % scale) j c.split_parts-amount.result.1 (let same = i.long in omega arith) i.fractions_done
           (c.split_parts-amount.ensures.fraction ∙ ap (λ (x : ℕ). x % scale) is) k h;
-      rest = λ k h. ap (λ (xs : List ℕ). get_or xs k 0) c.set.ensures ∙ written_rest c.loop-target.fractions c.args.fractions.now j c.split_parts-amount.result.1 i.rest k h;
+      rest = λ k h. ap (λ (xs : List ℕ). get_or xs k 0) c.set.ensures ∙ rest_more c.loop-target.fractions c.args.fractions.now j c.split_parts-amount.result.1 i.rest k h;
     }
 
 pub returns-clause-amounts : goal.returns-clause-amounts

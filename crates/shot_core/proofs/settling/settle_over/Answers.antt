@@ -5,10 +5,10 @@ use Rattle.flux_ledger.specs.declared.ledger.Ledger.{Ledger}
 use Rattle.flux_ledger.specs.Balance.{IsBalanced, IsPaid}
 use Rattle.flux_ledger.proofs.Bounds.{balances}
 use Rattle.shot_core.specs.Shots.{shot}
-use Rattle.shot_core.specs.Settling.{brightest, settled}
+use Rattle.shot_core.specs.Settling.{brightest_patch, settled_ledger}
 use Rattle.flux_ledger.specs.Balance.{unshot}
-use Rattle.shot_core.proofs.Keeping.{kept_paid, kept_balanced, lowered}
-use Rattle.shot_core.proofs.Ending.{settled_on, settled_done}
+use Rattle.shot_core.proofs.Keeping.{shot_stays_paid, shot_stays_balanced, unshot_falls}
+use Rattle.shot_core.proofs.Ending.{settling_goes_on, settling_ends}
 use Rattle.shot_core.proofs.settling.settle_over.Goals as goal
 
 pub loop-amounts-smaller : goal.loop-amounts-smaller
@@ -21,7 +21,7 @@ loop-amounts-smaller c =
     let long = i.balanced.lengths.of_residual in
     let inside : c.loop-amounts.place < patches s = omega arith in
     let enough : s.threshold ≤ get_or l.residual c.loop-amounts.place 0 = omega arith in
-    subst (λ (x : Ledger). unshot s x < unshot s l) (sym c.shoot.ensures) (lowered s c.len.ensures.system l i.balanced i.paid limit c.loop-amounts.place inside enough)
+    subst (λ (x : Ledger). unshot s x < unshot s l) (sym c.shoot.ensures) (unshot_falls s c.len.ensures.system l i.balanced i.paid limit c.loop-amounts.place inside enough)
 
 pub loop-amounts-preserved : goal.loop-amounts-preserved
 loop-amounts-preserved c =
@@ -35,16 +35,16 @@ loop-amounts-preserved c =
     let long = i.balanced.lengths.of_residual in
     let inside : place < patches s = omega arith in
     let enough : s.threshold ≤ get_or l.residual place 0 = omega arith in
-    let reaching : s.threshold ≤ get_or l.residual (brightest l.residual) 0 = subst (λ (k : ℕ). s.threshold ≤ get_or l.residual k 0) i.first enough in
+    let reaching : s.threshold ≤ get_or l.residual (brightest_patch l.residual) 0 = subst (λ (k : ℕ). s.threshold ≤ get_or l.residual k 0) i.first enough in
     let next = c.brightest_place-place-in-loop-amounts in
     let same = c.as_slice-in-loop-amounts.ensures in
     record {
-      balanced = subst (λ (x : Ledger). IsBalanced s x) (sym c.shoot.ensures) (kept_balanced s valid l i.balanced i.paid limit place inside enough);
-      paid = subst (λ (x : Ledger). IsPaid s x) (sym c.shoot.ensures) (kept_paid s valid l i.balanced i.paid limit place inside enough);
-      alike = ap (settled s) c.shoot.ensures ∙ (ap (λ (k : ℕ). settled s (shot s l k)) i.first ∙ (settled_on s valid l (balances s l i.balanced) reaching ∙ i.alike));
+      balanced = subst (λ (x : Ledger). IsBalanced s x) (sym c.shoot.ensures) (shot_stays_balanced s valid l i.balanced i.paid limit place inside enough);
+      paid = subst (λ (x : Ledger). IsPaid s x) (sym c.shoot.ensures) (shot_stays_paid s valid l i.balanced i.paid limit place inside enough);
+      alike = ap (settled_ledger s) c.shoot.ensures ∙ (ap (λ (k : ℕ). settled_ledger s (shot s l k)) i.first ∙ (settling_goes_on s valid l (balances s l i.balanced) reaching ∙ i.alike));
       direct = ap (λ (x : Ledger). x.direct) c.shoot.ensures ∙ i.direct;
       parts = ap (λ (x : Ledger). x.parts) c.shoot.ensures ∙ i.parts;
-      first = next.ensures.place ∙ ap brightest same;
+      first = next.ensures.place ∙ ap brightest_patch same;
       inside = subst (λ (xs : List ℕ). next.result < length xs) same next.ensures.inside;
       most = subst (λ (xs : List ℕ). (k : ℕ) → k < length xs → get_or xs k 0 ≤ get_or xs next.result 0) same next.ensures.most;
     }
@@ -55,5 +55,5 @@ returns-clause-settled c =
     let s = c.args.system.now in
     let l = c.loop-amounts.ledger in
     let low : get_or l.residual c.loop-amounts.place 0 < s.threshold = omega arith in
-    let rests : get_or l.residual (brightest l.residual) 0 < s.threshold = subst (λ (k : ℕ). get_or l.residual k 0 < s.threshold) i.first low in
-    sym (settled_done s c.len.ensures.system l (balances s l i.balanced) rests) ∙ i.alike
+    let rests : get_or l.residual (brightest_patch l.residual) 0 < s.threshold = subst (λ (k : ℕ). get_or l.residual k 0 < s.threshold) i.first low in
+    sym (settling_ends s c.len.ensures.system l (balances s l i.balanced) rests) ∙ i.alike

@@ -1,7 +1,7 @@
 use Rattle.std.proofs.Common.{◌≡◌, ℕ, ◌*◌, ◌/◌, ap, ◌∙◌}
 use Rattle.std.specs.List.{sum}
 use Rattle.flux_system.specs.System.{FluxSystem, scale, least_keep}
-use Rattle.flux_system.proofs.Limits.{past_flux, past_takes, within}
+use Rattle.flux_system.proofs.Limits.{past_flux, past_takes, within_limits}
 use Rattle.flux_system.proofs.system.System.takes_bound.Goals as goal
 
 -- the bound, by the numbers that it is made of
@@ -21,4 +21,4 @@ pub returns-clause-answer : goal.returns-clause-answer
 returns-clause-answer c =
     let is = quotient c.args.self.now (sum c.args.direct.now) c.from-3.result c.total_flux-sum.result c.from.result c.from-2.result c.from-3.ensures c.total_flux-sum.ensures
     (c.from.ensures ∙ ap (λ (s : FluxSystem). s.threshold) c.self.view_is) (c.from-2.ensures ∙ c.least_keep.ensures.value) in
-    within c.args.self.now c.args.direct.now _ c.total_flux-sum.ensures c.if-sum-gt-MOST_FLUX.false _ is c.if-bound-gt-MOST_TAKES.false
+    within_limits c.args.self.now c.args.direct.now _ c.total_flux-sum.ensures c.if-sum-gt-MOST_FLUX.false _ is c.if-bound-gt-MOST_TAKES.false

@@ -38,8 +38,8 @@ unfolding line_at
 returns-clause-line c =
     let s = c.self.inside in
     let there = line_there s.text.now s.at s.read c.self.invariant c.if-self.false in
-    let text : c.trimmed.result.now ≡ without_return (before_first is_newline (drop s.at s.text.now)) = c.trimmed.ensures.value ∙ ap without_return c.front-content.ensures.value in
-    let here : line_at s.text.now s.at ≡ line_piece record { number = s.read + 1; start = s.at; text = c.trimmed.result } = (λ k. record { number = sym (c.self.invariant.counted c.if-self.false) k; start = s.at; text = sym text k }) in
+    let text : c.without_return.result.now ≡ without_return (before_first is_newline (drop s.at s.text.now)) = c.without_return.ensures.value ∙ ap without_return c.front-content.ensures.value in
+    let here : line_at s.text.now s.at ≡ line_piece record { number = s.read + 1; start = s.at; text = c.without_return.result } = (λ k. record { number = sym (c.self.invariant.counted c.if-self.false) k; start = s.at; text = sym text k }) in
     rw (← c.self.view_is, there.0, here) refl
 
 pub returns-clause-there : goal.returns-clause-there
@@ -53,4 +53,4 @@ unfolding line_at
 returns-clause-text c =
     let s = c.self.inside in
     let there = line_there s.text.now s.at s.read c.self.invariant c.if-self.false in
-    rw (← c.self.view_is, line_text_at s.text.now s.read _ there.0) (c.trimmed.ensures.value ∙ ap without_return c.front-content.ensures.value)
+    rw (← c.self.view_is, line_text_at s.text.now s.read _ there.0) (c.without_return.ensures.value ∙ ap without_return c.front-content.ensures.value)

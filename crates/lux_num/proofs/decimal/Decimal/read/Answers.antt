@@ -4,7 +4,7 @@ use Rattle.lux_num.specs.declared.decimal.NumFault.TheVariants.{BadByte}
 use Rattle.lux_num.specs.Digits.{tail, digits, digits_value, whole_digits, fraction_digits, may_be_exponent, is_exponent, exponent_value}
 use Rattle.lux_num.specs.Decimal.{number_value}
 use Rattle.lux_num.proofs.TenPowers.{power_positive}
-use Rattle.lux_num.proofs.Reading.{is_bad_byte, is_empty, has_too_many, has_bad_exponent, is_number, joined_exponent, digits_fit}
+use Rattle.lux_num.proofs.Reading.{is_bad_byte, is_empty, has_too_many, has_bad_exponent, is_number, exponent_sum, digits_fit}
 use Rattle.lux_num.proofs.decimal.Decimal.read.Goals as goal
 
 pub returns-then-not-may_be_exponent : goal.returns-then-not-may_be_exponent
@@ -54,6 +54,6 @@ returns c =
     ∙ ((λ k. fold (λ (value : ℕ) (digit : ℕ). 10 * value + (digit - 48)) ((c.with_digits.ensures.value ∙ ap digits_value parts.whole) k) (parts.fraction k))
     ∙ sym (fold-append (λ (value : ℕ) (digit : ℕ). 10 * value + (digit - 48)) 0 (whole_digits c.args.text.now) (fraction_digits c.args.text.now))) in
     let power : c.in-Some.power ≡ exponent_value (tail c.args.text.now) = c.in-Some.ensures.value ∙ ap exponent_value parts.tail in
-    let exponent = joined_exponent c.in-Some.power (length c.parts_of-parts.result.fraction.now) (omega arith) c.in-Some.ensures.least c.in-Some.ensures.most in
-    let joined : ◌-ℤ◌ c.in-Some.power (pos (length c.parts_of-parts.result.fraction.now)) ≡ ◌-ℤ◌ (exponent_value (tail c.args.text.now)) (pos (length (fraction_digits c.args.text.now))) = (λ k. ◌-ℤ◌ (power k) (pos (length (parts.fraction k)))) in
-    sym (is_number c.args.text.now test (omega arith) (omega arith) some ∙ (λ k. Ok record { negative = sym c.has_minus.ensures k; mantissa = sym value k; exponent = sym (exponent ∙ joined) k }))
+    let exponent = exponent_sum c.in-Some.power (length c.parts_of-parts.result.fraction.now) (omega arith) c.in-Some.ensures.least c.in-Some.ensures.most in
+    let power_is : ◌-ℤ◌ c.in-Some.power (pos (length c.parts_of-parts.result.fraction.now)) ≡ ◌-ℤ◌ (exponent_value (tail c.args.text.now)) (pos (length (fraction_digits c.args.text.now))) = (λ k. ◌-ℤ◌ (power k) (pos (length (parts.fraction k)))) in
+    sym (is_number c.args.text.now test (omega arith) (omega arith) some ∙ (λ k. Ok record { negative = sym c.has_minus.ensures k; mantissa = sym value k; exponent = sym (exponent ∙ power_is) k }))

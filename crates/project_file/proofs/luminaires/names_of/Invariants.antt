@@ -1,6 +1,0 @@
-use Rattle.std.proofs.Common.{◌≡◌, take}
-use Rattle.project_file.specs.Texts.{texts}
-use Rattle.project_file.proofs.luminaires.names_of.Given as goal
-
-abbrev pub invariant-loop-file : goal.invariant-loop-file
-invariant-loop-file l = l.names.items ≡ texts (take l.file-index l.kept)

@@ -1,0 +1,47 @@
+// The tables of a project file, and the names of their fields.
+ghost use Rattle.std.specs.Prelude.{◌≡◌};
+ghost use Rattle.std.specs.List.{list_any};
+ghost use Rattle.std.specs.Str.{bytes_eq};
+ghost use Rattle.project_file.specs.Tables.{fields_of, room_fields};
+
+/// A table of a project file; luminaires are numbered from 0.
+#[derive(Clone, Copy, Debug)]
+pub enum TableAt {
+    /// The table of the whole file.
+    Top,
+    /// The table `room`.
+    Room,
+    /// The table `solver`.
+    Solver,
+    /// One of the tables `luminaire`.
+    Luminaire(usize),
+}
+
+impl TableAt {
+    /// Whether the table has a field of this name.
+    pub fn has_field(self, name: &str) -> bool
+        ensures { result ≡ list_any (λ f. bytes_eq name.now f.name) (fields_of self) }
+    {
+        match self {
+            TableAt::Top => is_any(name, &["version", "room", "solver", "luminaire"]),
+            TableAt::Room => is_room_field(name),
+            TableAt::Solver => name == "threshold",
+            TableAt::Luminaire(_) => is_any(name, &["file", "x", "y", "z", "rotation", "level"]),
+        }
+    }
+}
+
+fn is_room_field(name: &str) -> bool
+    ensures { result ≡ list_any (λ f. bytes_eq name.now f.name) room_fields }
+{
+    let names = [
+        "width", "depth", "height", "counts", "floor", "ceiling", "walls",
+    ];
+    is_any(name, &names)
+}
+
+fn is_any(name: &str, names: &[&str]) -> bool
+    ensures { result ≡ list_any (λ other. bytes_eq name.now other.now) names.now }
+{
+    names.iter().any(|other| name == *other)
+}
