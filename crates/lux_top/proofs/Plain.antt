@@ -1,61 +1,63 @@
--- The plans' own refusals need no cause but the words and the bytes that were read.
-use Rattle.std.proofs.Common.{ℕ, List, [], ◌∷◌, refl, Option, Some, None}
-use Rattle.duties.specs.Duties.{judged}
-use Rattle.fixtures.specs.Placing.{placing_duty}
-use Rattle.project_file.specs.Projects.{project_of}
-use Rattle.room_patches.specs.Validity.{room_duties}
-use Rattle.lux_top.specs.declared.answers.Answer.TheVariants as answer
+-- Each refusal of a command's plan comes from the words and what was read, and each of its values is a success.
+use Rattle.std.proofs.Common.{ℕ, List, refl, Option, Some, None}
+use Rattle.lit_room.specs.LitRooms.{lit_room_of}
+use Rattle.lit_room.specs.declared.faults.LightFault.{LightFault}
+use Rattle.lit_room.specs.declared.faults.LightFault.TheVariants as light
+use Rattle.project_file.specs.Projects.{Project, project_of}
+use Rattle.system_file.specs.SystemText.{system_of}
+use Rattle.lux_answers.specs.Answers.{cause_of}
+use Rattle.lux_answers.specs.declared.answers.Answer.TheVariants as answer
+use Rattle.lux_plans.specs.Plans.{Give, each}
+use Rattle.lux_plans.proofs.Caused.{IsPlain, IsAny, IsSuccess, NeedsNothing, plain_accept, plain_then, plain_file, plain_each}
 use Rattle.lux_top.specs.declared.commands.Command.{Command}
 use Rattle.lux_top.specs.declared.commands.Command.TheVariants.{Solve, Photo, Run}
-use Rattle.system_file.specs.SystemText.{system_of}
-use Rattle.lux_top.specs.Solving.{system_file, limited, within_limits, limited_file, solved, solving}
-use Rattle.lux_top.specs.Photographing.{photometry_in, refusal_of, photometry_file, developed, photographing}
-use Rattle.lux_top.specs.Plans.{Give, and_then}
-use Rattle.lux_top.specs.Running.{Lighting, project_file, webs_of, with_webs, lighting_file, in_valid_room, with_placed, problem_of, lit, running}
-use Rattle.lux_top.specs.Words.{plan_of}
-use Rattle.lux_top.proofs.Caused.{IsPlain, IsAny, IsDone, plain_accept, plain_then}
+use Rattle.lux_top.specs.PhotoCommand.{photometry_output, photo_plan}
+use Rattle.lux_top.specs.PhotometryFiles.{photometry_in, photometry_refusal, photometry_file, most_photometry_bytes}
+use Rattle.lux_top.specs.ProjectFiles.{most_project_bytes, project_file, web_file, lit_project, lit_room, lit_room_file, light_refusal}
+use Rattle.lux_top.specs.RunCommand.{problem_of, run_plan}
+use Rattle.lux_top.specs.Settlements.{settlement}
+use Rattle.lux_top.specs.SolveCommand.{solve_plan}
+use Rattle.lux_top.specs.SystemFiles.{most_system_bytes, problem_in_limits, within_limits, system_file, problem_file}
+use Rattle.lux_top.specs.Commands.{plan_of}
 
-plain_system : (name : List ℕ) → IsPlain IsAny (system_file name)
-plain_system name text = plain_accept (system_of text) answer.System (λ fault. refl)
+plain_problem : (name : List ℕ) → IsPlain IsAny (problem_file name)
+plain_problem name =
+    plain_then IsAny IsAny (system_file name) within_limits (plain_file name most_system_bytes system_of answer.System (λ fault. tt))
+    (λ problem any. plain_accept (problem_in_limits problem) answer.Limits (λ fault. tt))
 
-plain_limited : (name : List ℕ) → IsPlain IsAny (limited_file name)
-plain_limited name = plain_then IsAny IsAny (system_file name) within_limits (plain_system name) (λ problem any. plain_accept (limited problem) answer.Limits (λ fault. refl))
-
-pub plain_solving : (name : List ℕ) → IsPlain IsDone (solving name)
-plain_solving name = plain_then IsAny IsDone (limited_file name) solved (plain_limited name) (λ problem any. refl)
+pub plain_solve : (name : List ℕ) → IsPlain IsSuccess (solve_plan name)
+plain_solve name = plain_then IsAny IsSuccess (problem_file name) settlement (plain_problem name) (λ problem any. λ ledger. refl)
 
 plain_photometry : (name : List ℕ) → IsPlain IsAny (photometry_file name)
-plain_photometry name text = plain_accept (photometry_in text) (refusal_of name) (λ fault. refl)
+plain_photometry name = plain_file name most_photometry_bytes photometry_in (photometry_refusal name) (λ fault. tt)
 
-pub plain_photographing : (name : List ℕ) → IsPlain IsDone (photographing name)
-plain_photographing name = plain_then IsAny IsDone (photometry_file name) developed (plain_photometry name) (λ photometry any. refl)
+pub plain_photo : (name : List ℕ) → IsPlain IsSuccess (photo_plan name)
+plain_photo name = plain_then IsAny IsSuccess (photometry_file name) photometry_output (plain_photometry name) (λ photometry any. refl)
 
-plain_webs : (names : List (List ℕ)) → IsPlain IsAny (webs_of names)
-plain_webs [] = tt
-plain_webs (name ∷ names) =
-    plain_then IsAny IsAny (photometry_file name) (λ photometry. and_then (webs_of names) (λ others. Give (photometry.web ∷ others))) (plain_photometry name)
-    (λ photometry any. plain_then IsAny IsAny (webs_of names) (λ others. Give (photometry.web ∷ others)) (plain_webs names) (λ others any. tt))
+plain_web : (name : List ℕ) → IsPlain IsAny (web_file name)
+plain_web name = plain_then IsAny IsAny (photometry_file name) (λ photometry. Give photometry.web) (plain_photometry name) (λ photometry any. tt)
 
-plain_lighting : (name : List ℕ) → IsPlain IsAny (lighting_file name)
-plain_lighting name =
-    plain_then IsAny IsAny (project_file name) with_webs (λ text. plain_accept (project_of text) answer.Project (λ fault. refl))
-    (λ project any. plain_then IsAny IsAny (webs_of project.files) (λ webs. Give (record { project = project; webs = webs })) (plain_webs project.files) (λ webs any. tt))
+plain_light : (fault : LightFault) → NeedsNothing (cause_of (light_refusal fault))
+plain_light (light.Room fault) = tt
+plain_light (light.Fixture fault) = tt
+plain_light (light.Limits fault) = tt
+plain_light light.Memory = tt
 
-plain_lit : (lighting : Lighting) → IsPlain IsAny (lit lighting)
-plain_lit lighting =
-    plain_then IsAny IsAny (in_valid_room lighting) (λ valid. and_then (with_placed valid) (λ placed. within_limits (problem_of placed)))
-    (plain_accept (judged (room_duties lighting.project.room) lighting) answer.Room (λ fault. refl))
-    (λ valid any. plain_then IsAny IsAny (with_placed valid) (λ placed. within_limits (problem_of placed))
-    (plain_accept (judged (placing_duty valid.project.room valid.project.fixtures ∷ []) valid) answer.Fixture (λ fault. refl))
-    (λ placed any. plain_accept (limited (problem_of placed)) answer.Limits (λ fault. refl)))
+plain_lit_project : (project : Project) → IsPlain IsAny (lit_project project)
+plain_lit_project project =
+    plain_then IsAny IsAny (each web_file project.files) (λ webs. lit_room (record { project = project; webs = webs })) (plain_each web_file plain_web project.files)
+    (λ webs any. plain_accept (lit_room_of (record { project = project; webs = webs })) light_refusal plain_light)
 
-pub plain_running : (name : List ℕ) → IsPlain IsDone (running name)
-plain_running name =
-    plain_then IsAny IsDone (and_then (lighting_file name) lit) solved
-    (plain_then IsAny IsAny (lighting_file name) lit (plain_lighting name) (λ lighting any. plain_lit lighting)) (λ problem any. refl)
+plain_lit_room : (name : List ℕ) → IsPlain IsAny (lit_room_file name)
+plain_lit_room name =
+    plain_then IsAny IsAny (project_file name) lit_project (plain_file name most_project_bytes project_of answer.Project (λ fault. tt))
+    (λ project any. plain_lit_project project)
 
-pub plain_plan : (command : Option Command) → IsPlain IsDone (plan_of command)
-plain_plan None = refl
-plain_plan (Some (Solve name)) = plain_solving name
-plain_plan (Some (Photo name)) = plain_photographing name
-plain_plan (Some (Run name)) = plain_running name
+pub plain_run : (name : List ℕ) → IsPlain IsSuccess (run_plan name)
+plain_run name = plain_then IsAny IsSuccess (lit_room_file name) (λ lighting. settlement (problem_of lighting)) (plain_lit_room name) (λ lighting any. λ ledger. refl)
+
+pub plain_plan : (command : Option Command) → IsPlain IsSuccess (plan_of command)
+plain_plan None = tt
+plain_plan (Some (Solve name)) = plain_solve name
+plain_plan (Some (Photo name)) = plain_photo name
+plain_plan (Some (Run name)) = plain_run name

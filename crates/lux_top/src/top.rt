@@ -1,16 +1,15 @@
 // The top call.
 ghost use Rattle.std.specs.Prelude.{map, string_bytes, Some};
-ghost use Rattle.lux_top.specs.Runs.{world, Follows};
-ghost use Rattle.lux_top.specs.CommandRows.{CommandRow};
-ghost use Rattle.lux_top.specs.Words.{command_of, plan_of};
+ghost use Rattle.lux_plans.specs.Runs.{world, Follows};
+ghost use Rattle.lux_top.specs.Commands.{command_of, plan_of, CommandRow};
 
 use crate::commands::{Command, read_words};
-use crate::endings::conclude;
-use crate::photographing::photo;
-use crate::running::run;
-use crate::solving::solve;
-use crate::{Answer, Outcome};
+use crate::photo_command::photo;
+use crate::run_command::run;
+use crate::solve_command::solve;
+use lux_answers::{Answer, Outcome};
 use lux_io::{Gate, Shelf, Sink};
+use lux_plans::conclude;
 use std::alloc::Global;
 use std::sync::Wait;
 use std::thread::Threads;

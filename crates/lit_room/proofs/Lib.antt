@@ -1,0 +1,2 @@
+pub mod Lighting
+pub mod Making

@@ -1,0 +1,40 @@
+-- The steps in which a lit room is made, each from those before it.
+use Rattle.std.proofs.Common.{◌≡◌, ℕ, List, map, Some, None, Ok, Err, refl}
+use Rattle.std.specs.Option.{option_map}
+use Rattle.direct_flux.specs.DirectFlux.{direct_flux}
+use Rattle.duties.specs.Duties.{first}
+use Rattle.fixtures.specs.declared.fixture.Fixture.{Fixture}
+use Rattle.fixtures.specs.declared.spec.FixtureSpec.{FixtureSpec}
+use Rattle.fixtures.specs.Fixtures.{fixture_of}
+use Rattle.fixtures.specs.Placing.{placing_duty}
+use Rattle.flux_system.specs.System.{FluxSystem}
+use Rattle.flux_system.specs.Limits.{limit_duties}
+use Rattle.photo_web.specs.Web.{PhotometricWeb}
+use Rattle.room_patches.specs.declared.spec.RoomSpec.{RoomSpec}
+use Rattle.room_patches.specs.Validity.{room_duties}
+use Rattle.transfer_shares.specs.Shares as shares
+use Rattle.lit_room.specs.declared.faults.LightFault.{LightFault}
+use Rattle.lit_room.specs.declared.faults.LightFault.TheVariants as fault
+use Rattle.lit_room.specs.LitRooms.{Lighting, system_of, flux_of, lit_room_of}
+use Rattle.lit_room.proofs.Lighting.{room_refused, fixture_refused, limits_refused, accepted}
+
+module _ (l : Lighting) (spec room : RoomSpec) (asked : List FixtureSpec) (is_spec : spec ≡ l.project.room) (is_room : room ≡ spec) (is_asked : asked ≡ l.project.fixtures) where
+  pub no_room : (f : LightFault) → option_map fault.Room (first (room_duties spec)) ≡ Some f → lit_room_of l ≡ Err f
+  no_room f h = room_refused l f (rw is_spec at h)
+
+  pub flux_is : (fixtures : List Fixture) (webs : List PhotometricWeb) → fixtures ≡ map fixture_of asked → webs ≡ l.webs → direct_flux room fixtures webs ≡ flux_of l
+  flux_is fixtures webs is_fixtures is_webs = rw (is_fixtures, is_webs, is_room, is_spec, is_asked) refl
+
+  pub system_is : (threshold : ℕ) → threshold ≡ l.project.threshold → shares.room_system room threshold ≡ system_of l
+  system_is threshold is = rw (is, is_room, is_spec) refl
+
+  module _ (valid : option_map fault.Room (first (room_duties spec)) ≡ None) where
+    pub no_fixture : (f : LightFault) → option_map fault.Fixture (placing_duty room asked) ≡ Some f → lit_room_of l ≡ Err f
+    no_fixture f h = fixture_refused l (rw is_spec at valid) f (rw (is_room, is_spec, is_asked) at h)
+
+    module _ (placed : option_map fault.Fixture (placing_duty room asked) ≡ None) (system : FluxSystem) (flux : List ℕ) (is_system : system ≡ system_of l) (is_flux : flux ≡ flux_of l) where
+      pub past_limit : (f : LightFault) → option_map fault.Limits (first (limit_duties system flux)) ≡ Some f → lit_room_of l ≡ Err f
+      past_limit f h = limits_refused l (rw is_spec at valid) (rw (is_room, is_spec, is_asked) at placed) f (rw (is_system, is_flux) at h)
+
+      pub all_passed : option_map fault.Limits (first (limit_duties system flux)) ≡ None → lit_room_of l ≡ Ok l
+      all_passed h = accepted l (rw is_spec at valid) (rw (is_room, is_spec, is_asked) at placed) (rw (is_system, is_flux) at h)

@@ -1,0 +1,2 @@
+pub mod LitRooms
+pub mod Shapes

@@ -1,0 +1,103 @@
+// The parts of a lit room, each made once from those before it.
+ghost use Rattle.std.specs.Prelude.{◌≡◌, ◌≢◌, ◌≤◌, ◌<◌, ◌^◌, Some, All, length, map, IfOk, IfErr};
+ghost use Rattle.std.specs.Option.{option_map};
+ghost use Rattle.direct_flux.specs.DirectFlux.{direct_flux};
+ghost use Rattle.duties.specs.Duties.{first, Answers};
+ghost use Rattle.fixtures.specs.Fixtures.{fixture_of, IsPlaced};
+ghost use Rattle.fixtures.specs.Placing.{placing_duty};
+ghost use Rattle.flux_system.specs.System.{FluxSystem, patches};
+ghost use Rattle.flux_system.specs.Limits.{limit_duties};
+ghost use Rattle.room_patches.specs.Validity.{room_duties};
+ghost use Rattle.transfer_shares.specs.Shares.{room_system};
+ghost use Rattle.lit_room.specs.declared.faults.LightFault.TheVariants as fault;
+
+use crate::LightFault;
+use direct_flux::{DirectFault, direct};
+use fixtures::{Fixture, FixtureFault, FixtureSpec, place};
+use flux_system::{LimitFault, System};
+use photo_web::Web;
+use room_patches::{Room, RoomFault, RoomSpec};
+use std::alloc::Global;
+use transfer_shares::{all_rows, reflectances};
+
+/// The room, where it is valid.
+pub(crate) fn make_room(alloc: Global, spec: RoomSpec) -> Result<Room, LightFault>
+    ensures room { IfOk result (λ room. room ≡ spec) }
+    ensures answer { Answers fault.Memory (option_map fault.Room (first (room_duties spec))) result }
+{
+    match Room::new(alloc, spec) {
+        Ok(room) => Ok(room),
+        Err(RoomFault::Memory) => Err(LightFault::Memory),
+        Err(fault) => Err(LightFault::Room(fault)),
+    }
+}
+
+/// The luminaires, where they can be placed in the room.
+pub(crate) fn place_all(
+    alloc: Global,
+    room: &Room,
+    specs: &[FixtureSpec],
+) -> Result<Vec<Fixture>, LightFault>
+    requires { length specs.now ≤ 256 }
+    ensures fixtures { IfOk result (λ fixtures. fixtures.items ≡ map fixture_of specs.now) }
+    ensures placed { IfOk result (λ fixtures. All IsPlaced fixtures.items) }
+    ensures answer { Answers fault.Memory (option_map fault.Fixture (placing_duty room.now specs.now)) result }
+{
+    match place(alloc, room, specs) {
+        Ok(fixtures) => Ok(fixtures),
+        Err(FixtureFault::Memory) => Err(LightFault::Memory),
+        Err(fault) => Err(LightFault::Fixture(fault)),
+    }
+}
+
+/// The direct flux of each patch. One that is too large is past the first limit, whatever the system is.
+pub(crate) fn light_patches(
+    alloc: Global,
+    room: &Room,
+    fixtures: &[Fixture],
+    webs: &[Web],
+) -> Result<Vec<u64>, LightFault>
+    requires placed { All IsPlaced fixtures.now }
+    requires webs { All (λ fixture. fixture.web < length webs.now) fixtures.now }
+    requires few { length fixtures.now ≤ 256 }
+    ensures flux { IfOk result (λ flux. flux.items ≡ direct_flux room.now fixtures.now webs.now) }
+    ensures fault { IfErr result (λ answer. answer ≢ fault.Memory → (system : FluxSystem) → option_map fault.Limits (first (limit_duties system (direct_flux room.now fixtures.now webs.now))) ≡ Some answer) }
+{
+    match direct(alloc, room, fixtures, webs) {
+        Ok(flux) => Ok(flux),
+        Err(DirectFault::Memory) => Err(LightFault::Memory),
+        Err(DirectFault::FluxTooLarge { sum }) => {
+            Err(LightFault::Limits(LimitFault::FluxTooLarge { sum }))
+        }
+    }
+}
+
+/// The flux system of a room, which is always accepted.
+pub(crate) fn make_system(alloc: Global, room: &Room, threshold: u64) -> Result<System, LightFault>
+    requires some { 1 ≤ threshold }
+    requires limited { threshold ≤ 10 ^ 16 }
+    ensures system { IfOk result (λ system. system ≡ room_system room.now threshold) }
+    ensures fault { IfErr result (λ answer. answer ≡ fault.Memory) }
+{
+    let Ok(shares) = all_rows(alloc, room) else {
+        return Err(LightFault::Memory);
+    };
+    let Ok(reflectance) = reflectances(alloc, room) else {
+        return Err(LightFault::Memory);
+    };
+    match System::from_vecs(alloc, reflectance, shares, threshold) {
+        Ok(system) => Ok(system),
+        Err(_) => Err(LightFault::Memory),
+    }
+}
+
+/// Whether the direct flux is within the limits of the system.
+pub(crate) fn test_limits(system: &System, flux: &[u64]) -> Result<(), LightFault>
+    requires { length flux.now ≡ patches system.now }
+    ensures { Answers fault.Memory (option_map fault.Limits (first (limit_duties system.now flux.now))) result }
+{
+    match system.takes_bound(flux) {
+        Ok(_) => Ok(()),
+        Err(fault) => Err(LightFault::Limits(fault)),
+    }
+}

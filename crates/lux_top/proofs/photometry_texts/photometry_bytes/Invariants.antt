@@ -1,8 +1,0 @@
-use Rattle.std.proofs.Common.{◌≡◌, ◌++◌}
-use Rattle.std.specs.List.{flat_map, range_with_len}
-use Rattle.lux_top.specs.PhotometryText.{head_text, plane_line}
-use Rattle.lux_top.proofs.photometry_texts.photometry_bytes.Given as goal
-
--- the head, and the lines of the planes so far
-abbrev pub invariant-loop-plane : goal.invariant-loop-plane
-invariant-loop-plane l = l.text.items ≡ head_text l.photometry ++ flat_map (plane_line l.photometry.web) (range_with_len 0 l.plane)

@@ -1,7 +1,0 @@
--- What a command has before it writes: the answer that says so, and the bytes for the output.
-use Rattle.std.specs.Prelude.{ℕ, List}
-use Rattle.lux_top.specs.declared.answers.Answer.{Answer}
-
-pub record Writing : Type 0 where
-  pub answer : Answer
-  pub bytes : List ℕ
