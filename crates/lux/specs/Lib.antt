@@ -1,2 +1,3 @@
+pub mod CountedReads
 pub mod Loads
 pub mod Untold

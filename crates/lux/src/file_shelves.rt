@@ -1,50 +1,71 @@
 // Real files.
-ghost use Rattle.std.specs.Prelude.{◌≡◌, ◌<◌, ◌≤◌, ◌+◌, length, take, IfOk, IfSome, IsErrOf, OnErr};
+ghost use Rattle.std.specs.Prelude.{true, false, ◌≡◌, ◌<◌, ◌≤◌, ◌+◌, ◌*◌, ◌^◌, length, take, IfOk, IfSome, IsErrOf, OnErr, OnOk};
 ghost use Rattle.std.specs.Io.KnownBytes.{Consumes, IsAtEnd, Keeps};
 ghost use Rattle.lux.specs.Loads.{TakesAtMost};
 
+use crate::counted_readers::{CountedReader, ReadFault};
+use crate::tries::MOST_TRIES;
 use lux_io::{Blame, Count, Name, Shelf, ShelfFault};
 use std::alloc::Global;
+use std::fs;
 use std::fs::OpenFile;
-use std::io::{ErrorKind, Read};
+use std::io::Read;
 use std::rt::Files;
-use std::{fs, io};
 
 // How many bytes one read takes at most.
 const MOST_READ: usize = 65_536;
 
 // Reads at most `room` bytes into the front of the buffer. A read that a signal stopped is tried again.
-fn read_front<R: Read>(reader: &mut R, buffer: &mut [u8], room: usize) -> io::Result<usize>
-    requires { room ≤ length buffer.old }
+fn read_front<R: Read>(
+    reader: &mut CountedReader<R>,
+    buffer: &mut [u8],
+    room: usize,
+) -> Result<usize, ReadFault>
+    requires enough { room ≤ length buffer.old }
+    requires goes_on { reader.old.ended ≡ false }
+    requires few_reads { reader.old.reads < 2 ^ 126 }
+    requires few_bytes { reader.old.taken < 2 ^ 126 }
     ensures few { IfOk result (λ count. count ≤ room) }
-    ensures taken { IfOk result (λ count. Consumes (R.remaining reader.old) (R.remaining reader.new) (take count buffer.new)) }
-    ensures end { IfOk result (λ count. count ≡ 0 → 0 < room → IsAtEnd (R.remaining reader.new)) }
-    ensures err { OnErr result (Keeps (R.remaining reader.old) (R.remaining reader.new)) }
+    ensures taken { IfOk result (λ count. Consumes (R.remaining reader.old.reader) (R.remaining reader.new.reader) (take count buffer.new)) }
+    ensures end { IfOk result (λ count. count ≡ 0 → 0 < room → IsAtEnd (R.remaining reader.new.reader)) }
+    ensures err { OnErr result (Keeps (R.remaining reader.old.reader) (R.remaining reader.new.reader)) }
+    ensures tries { reader.new.reads ≤ reader.old.reads + MOST_TRIES }
+    ensures count { IfOk result (λ count. reader.new.taken ≡ reader.old.taken + count) }
+    ensures none { OnErr result (reader.new.taken ≡ reader.old.taken) }
+    ensures goes_on { IfOk result (λ count. 0 < count → reader.new.ended ≡ false) }
+    ensures ended { IfOk result (λ count. count ≡ 0 → reader.new.ended ≡ true) }
 {
-    for _ in 0..u64::MAX {
+    for _ in 0..MOST_TRIES {
         match reader.read(&mut buffer[..room]) {
             Ok(count) => return Ok(count),
-            Err(error) if error.kind() == ErrorKind::Interrupted => {}
-            Err(error) => return Err(error),
+            Err(ReadFault::Interrupted) => {}
+            Err(ReadFault::Failed) => return Err(ReadFault::Failed),
         }
     }
-    Err(io::Error::from(ErrorKind::TimedOut))
+    Err(ReadFault::Interrupted)
 }
 
 // All bytes of a reader, if there are at most `limit`. To tell whether there are more, one more is taken. Room for `size`
-// bytes is reserved. Each read but the last takes at least one byte.
+// bytes is reserved. Each turn but the last takes at least one byte.
 fn load<R: Read>(
     alloc: Global,
-    reader: &mut R,
+    reader: &mut CountedReader<R>,
     buffer: &mut [u8],
     size: usize,
     limit: usize,
 ) -> Result<Vec<u8>, ShelfFault>
-    requires { 0 < length buffer.old }
+    requires some { 0 < length buffer.old }
+    requires goes_on { reader.old.ended ≡ false }
+    requires none_made { reader.old.reads ≡ 0 }
+    requires none_taken { reader.old.taken ≡ 0 }
     ensures short { IfOk result (λ bytes. length bytes.items ≤ limit) }
-    ensures whole { IfOk result (λ bytes. IfSome (R.remaining reader.old) (λ all. bytes.items ≡ all)) }
-    ensures too_long { IsErrOf result ShelfFault.TooLong → IfSome (R.remaining reader.old) (λ all. limit < length all) }
-    ensures taken { TakesAtMost (limit + 1) (R.remaining reader.old) (R.remaining reader.new) }
+    ensures whole { IfOk result (λ bytes. IfSome (R.remaining reader.old.reader) (λ all. bytes.items ≡ all)) }
+    ensures too_long { IsErrOf result ShelfFault.TooLong → IfSome (R.remaining reader.old.reader) (λ all. limit < length all) }
+    ensures taken { TakesAtMost (limit + 1) (R.remaining reader.old.reader) (R.remaining reader.new.reader) }
+    ensures none_lost { IfOk result (λ bytes. length bytes.items ≡ reader.new.taken) }
+    ensures ended { OnOk result (reader.new.ended ≡ true) }
+    ensures few { reader.new.taken ≤ limit + 1 }
+    ensures turns { reader.new.reads ≤ MOST_TRIES * (reader.new.taken + 1) }
 {
     let Ok(mut bytes) = Vec::with_capacity(alloc, size.min(limit)) else {
         return Err(ShelfFault::Memory);
@@ -74,7 +95,7 @@ fn load_named<R: Files>(
 ) -> Result<Vec<u8>, ShelfFault>
     ensures { IfOk result (λ bytes. length bytes.items ≤ limit) }
 {
-    let Ok(mut file) = fs::open(files, name.as_str()) else {
+    let Ok(file) = fs::open(files, name.as_str()) else {
         return Err(ShelfFault::Failed);
     };
     let size = match file.metadata() {
@@ -82,7 +103,13 @@ fn load_named<R: Files>(
         Err(_) => 0,
     };
     match vec![in alloc; 0; MOST_READ] {
-        Ok(mut buffer) => load(alloc, &mut file, &mut buffer, size, limit),
+        Ok(mut buffer) => load(
+            alloc,
+            &mut CountedReader::new(file),
+            &mut buffer,
+            size,
+            limit,
+        ),
         Err(_) => Err(ShelfFault::Memory),
     }
 }

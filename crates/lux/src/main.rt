@@ -6,8 +6,10 @@
 //! memory for the words, the answer is the one for that.
 #![tactic(auto)]
 
+mod counted_readers;
 mod file_shelves;
 mod stream_sinks;
+mod tries;
 
 use file_shelves::FileShelf;
 use lux_io::{FreeGate, Sink};

@@ -3,6 +3,7 @@ ghost use Rattle.std.specs.Prelude.{◌≤◌, length, take, IfOk, OnOk, OnErr};
 ghost use Rattle.std.specs.Io.KnownBytes.{Appends, Keeps};
 ghost use Rattle.lux.specs.Loads.{AppendsSome};
 
+use crate::tries::MOST_TRIES;
 use lux_io::{Failed, Sink};
 use std::io;
 use std::io::{ErrorKind, Write};
@@ -13,7 +14,7 @@ fn write_front<W: Write>(stream: &mut W, bytes: &[u8]) -> io::Result<usize>
     ensures written { IfOk result (λ count. Appends (W.contents stream.old) (W.contents stream.new) (take count bytes.now)) }
     ensures err { OnErr result (Keeps (W.contents stream.old) (W.contents stream.new)) }
 {
-    for _ in 0..u64::MAX {
+    for _ in 0..MOST_TRIES {
         match stream.write(bytes) {
             Ok(count) => return Ok(count),
             Err(error) if error.kind() == ErrorKind::Interrupted => {}
