@@ -5,7 +5,7 @@
 # expected: `stdout` and `stderr` (absent: nothing) and `status` (absent: 0). It is run in its own folder.
 here=$(cd "$(dirname "$0")" && pwd)
 program=$here/../crates/lux/out/lux
-[ -x "$program" ] || "$here/../lux" >/dev/null 2>&1
+[ -x "$program" ] || "$here/../build"
 if [ ! -x "$program" ]; then
   echo "examples: the program is not built"
   exit 1
@@ -47,10 +47,10 @@ for luminaire in batwing street spot; do
   run "$luminaire-eulumdat" "$luminaire-eulumdat.photo.txt" "" 0 photo "$luminaire.ldt"
 done
 run small-eulumdat small.photo.txt "" 0 photo small.ldt
-for project in cube hall; do
-  run "$project-project" "$project.run.txt" "" 0 run "$project.toml"
-done
 cd "$here/.." || exit 1
+for project in closet cube hall; do
+  run "$project-project" "examples/$project.run.txt" "" 0 run "examples/$project.toml"
+done
 for project in office classroom; do
   folder=examples/$project
   run "$project-project" "$folder/$project.run.txt" "" 0 run "$folder/$project.toml"
@@ -90,7 +90,8 @@ truncate -s 4194304 most.ies
 run most-photometry-bytes nothing "lux: photometry most.ies: short 2" 5 photo most.ies
 truncate -s 4194305 more.ies
 run too-long-photometry nothing "lux: file too long: more.ies" 6 photo more.ies
-cp "$here/cube.toml" "$here/one.ies" .
+cp "$here/one.ies" .
+sed 's|examples/||' "$here/cube.toml" >cube.toml
 run folder-as-project nothing "lux: cannot read folder" 6 run folder
 { cat cube.toml; head -c $((4194304 - $(wc -c <cube.toml))) /dev/zero | tr '\0' '\n'; } >most.toml
 run most-project-bytes "$here/cube.run.txt" "" 0 run most.toml

@@ -21,24 +21,3 @@ fn two_patches_have_their_intervals(rt: HostRuntime) -> Result<(), Fail> {
     );
     Ok(())
 }
-
-#[test]
-fn a_patch_that_lights_itself_has_its_interval(rt: HostRuntime) -> Result<(), Fail> {
-    let alloc = rt.alloc();
-    let system = System::new(alloc, &[950], &[400_000_000], 100)?;
-    let ledger = serial(alloc, &system, &[1_000])?;
-    let intervals = all(alloc, &system, &ledger)?;
-    assert_eq!(rt; intervals.as_slice(), [(1_579, 1_615)].as_slice());
-    Ok(())
-}
-
-#[test]
-fn a_dark_room_has_no_light(rt: HostRuntime) -> Result<(), Fail> {
-    let alloc = rt.alloc();
-    let system = System::new(alloc, &[500, 500], &[0, 500_000_000, 500_000_000, 0], 10)?;
-    let ledger = serial(alloc, &system, &[0, 0])?;
-    assert_eq!(rt; spill(&system, &ledger), 0);
-    let intervals = all(alloc, &system, &ledger)?;
-    assert_eq!(rt; intervals.as_slice(), [(0, 0), (0, 0)].as_slice());
-    Ok(())
-}

@@ -27,29 +27,6 @@ fn two_patches_settle_by_four_takes(rt: HostRuntime) -> Result<(), Fail> {
 }
 
 #[test]
-fn what_came_is_kept_or_left(rt: HostRuntime) -> Result<(), Fail> {
-    let keep: u64 = 750_000_000_000;
-    let absorbed = (1_062 + 265) * keep;
-    let remainders = 250_000_000_000 + 500_000_000_000;
-    let residual = 4 * 1_000_000_000_000;
-    assert_eq!(rt; absorbed, 995_250_000_000_000);
-    assert_eq!(rt; absorbed + remainders + residual, 1_000 * 1_000_000_000_000);
-    Ok(())
-}
-
-#[test]
-fn a_patch_that_lights_itself_settles(rt: HostRuntime) -> Result<(), Fail> {
-    let alloc = rt.alloc();
-    let system = System::new(alloc, &[950], &[400_000_000], 100)?;
-    let ledger = serial(alloc, &system, &[1_000])?;
-    assert_eq!(rt; ledger.taken.as_slice(), [1_524].as_slice());
-    assert_eq!(rt; ledger.residual.as_slice(), [55].as_slice());
-    assert_eq!(rt; ledger.err.as_slice(), [120_000_000_000].as_slice());
-    assert_eq!(rt; ledger.wins, 3);
-    Ok(())
-}
-
-#[test]
 fn a_settled_ledger_stays(rt: HostRuntime) -> Result<(), Fail> {
     let alloc = rt.alloc();
     let system = System::new(alloc, &[500, 500], &[0, 500_000_000, 500_000_000, 0], 10)?;

@@ -1,8 +1,8 @@
-//! Worked examples of ledgers, intervals and the exact solution, and of the commands over files in memory.
+//! Worked examples of webs, fakes, ledgers, intervals, the exact solution and projects.
 //!
-//! This crate has tests alone, as `worked_readers` and `worked_rooms` have theirs. They stand above all others, so that
-//! none of these is proved a second time for its tests; together they make every public call once with ample memory. The
-//! expected values come from calculations by hand or by other programs, and never from this one.
+//! This crate has tests alone, as `worked_readers`, `worked_rooms` and `worked_commands` have theirs. They stand above all
+//! others, so that none of these is proved a second time for its tests; together they make every public call once with
+//! ample memory. The expected values come from calculations by hand or by other programs, and never from this one.
 #![tactic(auto)]
 
 #[cfg(test)]
@@ -17,7 +17,3 @@ mod ledgers;
 mod photometry;
 #[cfg(test)]
 mod projects;
-#[cfg(test)]
-mod running;
-#[cfg(test)]
-mod solving;

@@ -4,7 +4,7 @@ use lux_num::NumFault;
 use photo_web::{PhotoKind, Photometry, SymKind};
 use std::alloc::Global;
 use std::test::Fail;
-use worked_texts::{first_lines, with_line};
+use worked_texts::{MOST_BYTES, first_lines, with_line};
 
 // Planes at 270, 0 and 90 degrees are stored, two values each.
 const LINES: [&str; 54] = [
@@ -263,9 +263,6 @@ const ODD: [(usize, &str, [u64; 2], [u64; 2]); 25] = [
     ),
     (55, " \t", [360_000_000, 36_000_000], [901_800_000, 0]),
 ];
-
-// The bytes that a test reads at most.
-const MOST_BYTES: usize = 10_000;
 
 fn read(alloc: Global, bytes: &[u8]) -> Result<Photometry, LdtFault> {
     read_ldt(alloc, &bytes[..bytes.len().min(MOST_BYTES)])

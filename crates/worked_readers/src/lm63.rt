@@ -4,7 +4,7 @@ use lux_num::NumFault;
 use photo_web::{PhotoKind, Photometry, SymKind};
 use std::alloc::Global;
 use std::test::Fail;
-use worked_texts::{first_lines, with_line};
+use worked_texts::{MOST_BYTES, first_lines, with_line};
 
 // One plane is stored, with three values.
 const LINES: [&str; 9] = [
@@ -297,9 +297,6 @@ const ODD: [(usize, &str, [u64; 3]); 22] = [
     (9, "-0 80 0.4", [0, 100_000_000, 500_000]),
     (9, "0.0000007999 80 0.4", [0, 100_000_000, 500_000]),
 ];
-
-// The bytes that a test reads at most.
-const MOST_BYTES: usize = 10_000;
 
 fn read(alloc: Global, bytes: &[u8]) -> Result<Photometry, LmFault> {
     read_lm63(alloc, &bytes[..bytes.len().min(MOST_BYTES)])

@@ -18,12 +18,12 @@ fn a_number_is_cut_to_places(rt: HostRuntime) -> Result<(), Fail> {
         ),
         (b"1E30", 9, None),
     ];
-    for (text, places, fixed) in rows {
+    for (text, places, fixed_value) in rows {
         let Ok(number) = Decimal::read(text) else {
             return Err(Fail::from("a number was refused"));
         };
         assert!(rt; places <= 9);
-        assert_eq!(rt; number.to_fixed(places), fixed);
+        assert_eq!(rt; number.to_fixed(places), fixed_value);
     }
     Ok(())
 }
@@ -42,7 +42,7 @@ fn a_number_is_whole_and_below_zero_or_not(rt: HostRuntime) -> Result<(), Fail> 
         let Ok(number) = Decimal::read(text) else {
             return Err(Fail::from("a number was refused"));
         };
-        assert_eq!(rt; number.whole(), whole);
+        assert_eq!(rt; number.to_whole(), whole);
         assert_eq!(rt; number.is_negative(), negative);
     }
     Ok(())

@@ -2,7 +2,7 @@
 use flux_system::{LimitFault, System, SystemFault};
 use std::test::Fail;
 use system_file::{SysFault, read_system};
-use worked_texts::{TWO_PATCHES, first_lines, with_line};
+use worked_texts::{MOST_BYTES, TWO_PATCHES, first_lines, with_line};
 
 // Two patches that face each other, line by line.
 const LINES: [&str; 7] = [
@@ -127,9 +127,6 @@ const FAULTY: [(usize, &str, SysFault); 59] = [
         SysFault::Trailing { line: 8 },
     ),
 ];
-
-// The bytes that a test reads at most.
-const MOST_BYTES: usize = 10_000;
 
 #[test]
 fn a_system_has_its_numbers(rt: HostRuntime) -> Result<(), Fail> {

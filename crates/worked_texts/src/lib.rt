@@ -3,4 +3,4 @@
 
 mod texts;
 
-pub use texts::{TWO_PATCHES, TWO_PATCHES_LEDGER, TWO_PATCHES_SOLVED, first_lines, with_line};
+pub use texts::{CUBE, MOST_BYTES, ONE, TWO_PATCHES, TWO_PATCHES_LEDGER, first_lines, with_line};

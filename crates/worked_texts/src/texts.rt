@@ -9,9 +9,15 @@ pub const TWO_PATCHES: &str =
 pub const TWO_PATCHES_LEDGER: &str =
     "lux-ledger 1\npatches 2\nwins 4\nparts 1\npatch 0 direct 1000 taken 1062 residual 4 err 250000000000\npatch 1 direct 0 taken 265 residual 0 err 500000000000\n";
 
-/// The same ledger, and the interval of each patch.
-pub const TWO_PATCHES_SOLVED: &str =
-    "lux-ledger 1\npatches 2\nwins 4\nparts 1\npatch 0 direct 1000 taken 1062 residual 4 err 250000000000\npatch 1 direct 0 taken 265 residual 0 err 500000000000\ninterval 0 1066 1069\ninterval 1 265 268\n";
+/// A metre of a cube with a luminaire in its middle.
+pub const CUBE: &str =
+    "version = 1\n[room]\nwidth = 1000\ndepth = 1000\nheight = 1000\ncounts = [1, 1, 1]\nfloor = 500\nceiling = 500\nwalls = 500\n[solver]\nthreshold = 5000000000\n[[luminaire]]\nfile = \"one.ies\"\nx = 500\ny = 500\nz = 500\nrotation = 0\nlevel = 1000\n";
+
+/// One candela in all directions.
+pub const ONE: &str = "IESNA:LM-63-2002\nTILT=NONE\n1 -1 1 2 1 1 2 0 0 0\n1 1 10\n0 180\n0\n1 1\n";
+
+/// The bytes that a test reads at most.
+pub const MOST_BYTES: usize = 10_000;
 
 /// The lines of a text, of which one is another text; a text behind the last line is one more.
 pub fn with_line(

@@ -1,0 +1,11 @@
+//! Worked examples of the commands over files in memory: reads and pieces that fail, and what is read.
+//!
+//! This crate has tests alone, as `worked_examples` has. What the built program shows is in the cases of `examples/`.
+#![tactic(auto)]
+
+#[cfg(test)]
+mod files;
+#[cfg(test)]
+mod running;
+#[cfg(test)]
+mod solving;

@@ -1,0 +1,58 @@
+// `run` over files in memory: what it writes, and what it reads.
+use crate::files::{file, run_in_memory};
+use lux_io::{MemShelf, MemSink, Name};
+use lux_top::Answer;
+use std::alloc::Global;
+use std::test::Fail;
+use worked_texts::{CUBE, ONE};
+
+// Two more luminaires of the same file, which are dark.
+const TWO_MORE: &str =
+    "[[luminaire]]\nfile = \"one.ies\"\nx = 500\ny = 500\nz = 500\nrotation = 0\nlevel = 0\n[[luminaire]]\nfile = \"one.ies\"\nx = 500\ny = 500\nz = 500\nrotation = 0\nlevel = 0\n";
+
+const CUBE_LEDGER: &str =
+    "lux-ledger 1\npatches 6\nwins 0\nparts 1\npatch 0 direct 4000000000 taken 0 residual 4000000000 err 0\npatch 1 direct 4000000000 taken 0 residual 4000000000 err 0\npatch 2 direct 4000000000 taken 0 residual 4000000000 err 0\npatch 3 direct 4000000000 taken 0 residual 4000000000 err 0\npatch 4 direct 4000000000 taken 0 residual 4000000000 err 0\npatch 5 direct 4000000000 taken 0 residual 4000000000 err 0\ninterval 0 4000000000 8799999953\ninterval 1 4000000000 8799999953\ninterval 2 4000000000 8799999953\ninterval 3 4000000000 8799999953\ninterval 4 4000000000 8799999953\ninterval 5 4000000000 8799999953\n";
+
+// The shelf of a project and its photometry, in which the reads of these numbers fail.
+fn shelf(alloc: Global, project: &str, failing: &[u64]) -> Result<MemShelf, Fail> {
+    let mut files = Vec::new(alloc);
+    files.push(file(alloc, "cube.toml", project)?)?;
+    files.push(file(alloc, "one.ies", ONE)?)?;
+    Ok(MemShelf::new(alloc, &files, failing)?)
+}
+
+#[test]
+fn a_read_that_fails_names_its_file(rt: HostRuntime) -> Result<(), Fail> {
+    let alloc = rt.alloc();
+    let cube = Name::new(alloc, "cube.toml")?;
+    let rows: [(u64, &str); 2] = [(0, "cube.toml"), (1, "one.ies")];
+    for (failing, expected) in rows {
+        let mut shelf = shelf(alloc, CUBE, &[failing])?;
+        let mut out = MemSink::new(alloc, 1_000, &[])?;
+        let mut notes = MemSink::new(alloc, 1_000, &[])?;
+        let outcome = run_in_memory(alloc, &cube, &mut shelf, &mut out, &mut notes);
+        match outcome.answer {
+            Answer::Read { name } => assert_eq!(rt; name.as_str(), expected),
+            _ => return Err(Fail::from("another answer")),
+        }
+        assert_eq!(rt; shelf.faults(), 1);
+        assert!(rt; out.written().is_empty());
+    }
+    Ok(())
+}
+
+// The third read would fail: the project is read, then the one file of its luminaires, and no other.
+#[test]
+fn a_file_that_three_luminaires_name_is_read_once(rt: HostRuntime) -> Result<(), Fail> {
+    let alloc = rt.alloc();
+    let cube = Name::new(alloc, "cube.toml")?;
+    let project = format!(in alloc; "{CUBE}{TWO_MORE}")?;
+    let mut shelf = shelf(alloc, &project, &[2])?;
+    let mut out = MemSink::new(alloc, 1_000, &[])?;
+    let mut notes = MemSink::new(alloc, 0, &[])?;
+    let outcome = run_in_memory(alloc, &cube, &mut shelf, &mut out, &mut notes);
+    assert!(rt; matches!(outcome.answer, Answer::Done { .. }));
+    assert_eq!(rt; out.written(), CUBE_LEDGER.as_bytes());
+    assert_eq!(rt; shelf.faults(), 0);
+    Ok(())
+}
