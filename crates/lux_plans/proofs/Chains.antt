@@ -49,6 +49,3 @@ module _ {A B : Type 0} where
   -- the same where neither reads
   pub gives_then : (plan : Plan A) (next : A → Plan B) (value : A) (result : Result B Answer) → Gives plan (Ok value) → Gives (next value) result → Gives (and_then plan next) result
   gives_then plan next value result first rest = λ shelf. takes_then plan next shelf shelf shelf value result (first shelf) (rest shelf)
-
-  pub gives_refused : (plan : Plan A) (next : A → Plan B) (answer : Answer) → Gives plan (Err answer) → Gives (and_then plan next) (Err answer)
-  gives_refused plan next answer first = λ shelf. takes_refused plan next shelf shelf answer (first shelf)

@@ -102,10 +102,6 @@ module _ {A B : Type 0} (step : A → Plan B) where
           (as_it_was, one_more values k value before results result here done (subst (λ (s : ShelfState). Decides (step value) before s (Ok result)) as_it_was h))
       given_by (inr (memory, keeps)) = absurd (cc)
 
-  -- all steps gave their values, and the shelf is as it was
-  pub takes_all : (values : List A) (before after : ShelfState) (results : List B) → after ≡ before → Decides (each step values) before before (Ok results) → Takes (each step values) before after (Ok results)
-  takes_all values before after results same h = inl (subst (λ (s : ShelfState). Decides (each step values) before s (Ok results)) (sym same) h)
-
   pub takes_as_many : (values : List A) (before after : ShelfState) (results : List B) → Takes (each step values) before after (Ok results) → length results ≡ length values
   takes_as_many values before after results (inl h) = as_many values before after results h
   takes_as_many values before after results (inr (memory, keeps)) = absurd (cc)

@@ -3,7 +3,7 @@ use Rattle.std.proofs.Common.{◌≡◌, inl, inr, refl, arith, Result, Ok, Err}
 use Rattle.lux_io.specs.Shelves.{ShelfState}
 use Rattle.lux_answers.specs.declared.answers.Answer.{Answer}
 use Rattle.lux_answers.specs.declared.answers.Answer.TheVariants.{Memory}
-use Rattle.lux_plans.specs.Plans.{Plan, Give, Refuse, Keeps, Takes, Gives, accept}
+use Rattle.lux_plans.specs.Plans.{Plan, Refuse, Keeps, Takes, Gives, accept}
 
 -- a shelf that is as it was
 keeps_all : (shelf : ShelfState) → Keeps shelf shelf
@@ -22,6 +22,3 @@ gives_ok found refusal value is = λ shelf. rw is (inl (refl, refl))
 
 pub gives_err : {V F : Type 0} (found : Result V F) (refusal : F → Answer) (fault : F) → found ≡ Err fault → Gives (accept found refusal) (Err (refusal fault))
 gives_err found refusal fault is = λ shelf. rw is (inl (refl, refl))
-
-pub gives_value : {A : Type 0} (value : A) → Gives (Give value) (Ok value)
-gives_value value = λ shelf. inl (refl, refl)
