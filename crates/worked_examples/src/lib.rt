@@ -1,8 +1,9 @@
-//! Worked examples of webs, fakes, ledgers, intervals, the exact solution and projects.
+//! Worked examples of webs, fakes, words, ledgers, intervals, the exact solution and projects.
 //!
 //! This crate has tests alone, as `worked_readers`, `worked_rooms` and `worked_commands` have theirs. They stand above all
-//! others, so that none of these is proved a second time for its tests; together they make every public call once with
-//! ample memory. The expected values come from calculations by hand or by other programs, and never from this one.
+//! others, so that none of these is proved a second time for its tests; together with the cases of `examples/` they show that
+//! calls succeed with ample memory. The expected values come from calculations by hand or by other programs, and never from
+//! this one.
 #![tactic(auto)]
 
 #[cfg(test)]
@@ -17,3 +18,5 @@ mod ledgers;
 mod photometry;
 #[cfg(test)]
 mod projects;
+#[cfg(test)]
+mod words;
