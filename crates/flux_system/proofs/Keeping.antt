@@ -4,9 +4,8 @@ use Rattle.std.specs.Prelude.{slice_index}
 use Rattle.std.proofs.lemmas.List.FromFn.{length-map-range_with_len, get_or-map-range_with_len}
 use Rattle.std.proofs.lemmas.Nat.{mul-le}
 use Rattle.flux_system.specs.Sums.{least_below}
-use Rattle.flux_system.specs.System.{FluxSystem, scale, patches, share, row_total, coefficient, passed_part, keep, least_keep}
+use Rattle.flux_system.specs.System.{FluxSystem, scale, patches, share, row_total, coefficient, passed_part, keep, kept_parts, least_keep}
 use Rattle.flux_system.specs.Validity.{IsSystem}
-use Rattle.flux_system.specs.Shapes.{IsSystemWithKept}
 use Rattle.flux_system.proofs.Sums.{sum-scale, least-same, least-le, least-above}
 
 pub passed_part-is : (s : FluxSystem) (i : ℕ) → passed_part s i ≡ slice_index s.reflectance i * row_total s i
@@ -35,15 +34,15 @@ least_keep-above s valid = let some = valid.some in least-above (patches s) (kee
 pub least_keep-le : (s : FluxSystem) (i : ℕ) → i < patches s → least_keep s ≤ keep s i
 least_keep-le s i h = least-le (patches s) (keep s) i h
 
--- the parts that a system holds
-pub length-kept : (s : FluxSystem) (kept : List ℕ) → IsSystemWithKept s kept → length kept ≡ patches s
-length-kept s kept held = ap length held.keeps ∙ length-map-range_with_len (keep s) 0 (patches s)
+-- what each patch of a system keeps
+pub length-kept : (s : FluxSystem) (kept : List ℕ) → kept ≡ kept_parts s → length kept ≡ patches s
+length-kept s kept is = ap length is ∙ length-map-range_with_len (keep s) 0 (patches s)
 
-pub kept-at : (s : FluxSystem) (kept : List ℕ) → IsSystemWithKept s kept → (i : ℕ) → i < patches s → get_or kept i 0 ≡ keep s i
-kept-at s kept held i h = ap (λ (xs : List ℕ). get_or xs i 0) held.keeps ∙ get_or-map-range_with_len (keep s) 0 (patches s) i i 0 h (omega arith)
+pub kept-at : (s : FluxSystem) (kept : List ℕ) → kept ≡ kept_parts s → (i : ℕ) → i < patches s → get_or kept i 0 ≡ keep s i
+kept-at s kept is i h = ap (λ (xs : List ℕ). get_or xs i 0) is ∙ get_or-map-range_with_len (keep s) 0 (patches s) i i 0 h (omega arith)
 
-pub least-kept : (s : FluxSystem) (kept : List ℕ) → IsSystemWithKept s kept → least_below (length kept) (λ i. get_or kept i 0) ≡ least_keep s
-least-kept s kept held =
-    let some = held.valid.some in
-    ap (λ (n : ℕ). least_below n (λ i. get_or kept i 0)) (length-kept s kept held)
-    ∙ least-same (patches s) (λ i. get_or kept i 0) (keep s) (kept-at s kept held 0 (omega arith)) (kept-at s kept held)
+pub least-kept : (s : FluxSystem) (kept : List ℕ) → IsSystem s → kept ≡ kept_parts s → least_below (length kept) (slice_index kept) ≡ least_keep s
+least-kept s kept valid is =
+    let some = valid.some in
+    ap (λ (n : ℕ). least_below n (slice_index kept)) (length-kept s kept is)
+    ∙ least-same (patches s) (slice_index kept) (keep s) (kept-at s kept is 0 (omega arith)) (kept-at s kept is)

@@ -1,14 +1,17 @@
 // A valid flux system.
-ghost use Rattle.std.specs.Prelude.{◌≡◌, ◌<◌, ◌≤◌, ◌*◌, ◌^◌, IfOk, OnOk, length, slice_index, sum};
+ghost use Rattle.std.specs.Prelude.{◌≡◌, ◌<◌, ◌≤◌, ◌*◌, ◌^◌, IfOk, OnOk, All, length, slice_index, sum};
 ghost use Rattle.duties.specs.Duties.{first, judged, Answers};
 ghost use Rattle.flux_system.specs.Sums.{least_below};
-ghost use Rattle.flux_system.specs.System.{patches, coefficient, share_row, keep, least_keep, bound_of_takes};
+ghost use Rattle.flux_system.specs.System.{patches, share, coefficient, kept_parts, keep, least_keep, bound_of_takes};
+ghost use Rattle.flux_system.specs.Entries.{row_entries, column_entries};
 ghost use Rattle.flux_system.specs.Validity.{IsSystem, system_duties};
 ghost use Rattle.flux_system.specs.Limits.{limit_duties};
 
-use crate::kept::{SCALE, kept_parts, row_at};
-use crate::{LimitFault, MOST_PATCHES, SystemFault};
-use std::alloc::Global;
+use crate::entries::Entries;
+use crate::kept::{SCALE, kept_parts};
+use crate::lists::{columns_of, rows_of};
+use crate::{Entry, LimitFault, MOST_PATCHES, SystemFault};
+use std::alloc::{AllocError, Global};
 use std::marker::Model;
 
 /// The most direct flux over all patches, in nanolumens.
@@ -22,24 +25,28 @@ const MOST_TAKES: u128 = 100_000_000;
 pub struct System {
     threshold: u64,
     reflectance: Vec<u32>,
-    shares: Vec<u32>,
+    rows: Vec<Entries>,
+    columns: Vec<Entries>,
     kept: Vec<u64>,
+    least: u64,
 }
 
 impl Model for System {
+    ghost use Rattle.std.specs.Prelude.{length};
     ghost use Rattle.flux_system.specs.System.{FluxSystem};
-    ghost use Rattle.flux_system.specs.Shapes.{IsSystemWithKept};
+    ghost use Rattle.flux_system.specs.Shapes.{shares_in_rows, IsSystemWithLists};
 
     ghost Value = { FluxSystem };
 
-    ghost view = { λ s. record { threshold = s.threshold; reflectance = s.reflectance.items; shares = s.shares.items } };
+    ghost view = { λ s. record { threshold = s.threshold; reflectance = s.reflectance.items; shares = shares_in_rows (length s.reflectance.items) s.rows.items } };
 
-    ghost invariant = { λ s. IsSystemWithKept (record { threshold = s.threshold; reflectance = s.reflectance.items; shares = s.shares.items }) s.kept.items };
+    ghost invariant = { λ s. IsSystemWithLists (record { threshold = s.threshold; reflectance = s.reflectance.items; shares = shares_in_rows (length s.reflectance.items) s.rows.items }) s.rows.items s.columns.items s.kept.items s.least };
 }
 
 impl System {
     /// A system of these reflectances (per mille), shares (a row for each patch, in parts of 10^9) and threshold
-    /// (nanolumens), which are copied. The first test that fails gives the error; `Memory` may come in the place of any.
+    /// (nanolumens). The reflectances are copied, and of the shares those that aren't 0. The first test that fails gives
+    /// the error; `Memory` may come in the place of any.
     pub fn new(
         alloc: Global,
         reflectance: &[u32],
@@ -50,15 +57,11 @@ impl System {
         ensures answer { Answers SystemFault.Memory (first (system_duties (record { threshold = threshold; reflectance = reflectance.now; shares = shares.now }))) result }
     {
         let kept = kept_parts(alloc, reflectance, shares, threshold)?;
-        Ok(System {
-            threshold,
-            reflectance: Vec::from_slice(alloc, reflectance)?,
-            shares: Vec::from_slice(alloc, shares)?,
-            kept,
-        })
+        let reflectance = Vec::from_slice(alloc, reflectance)?;
+        Ok(System::of_parts(alloc, threshold, reflectance, shares, kept)?)
     }
 
-    /// The same of vectors, which are moved and not copied.
+    /// The same of vectors: the reflectances are moved and not copied.
     pub fn from_vecs(
         alloc: Global,
         reflectance: Vec<u32>,
@@ -69,11 +72,31 @@ impl System {
         ensures answer { Answers SystemFault.Memory (first (system_duties (record { threshold = threshold; reflectance = reflectance.items; shares = shares.items }))) result }
     {
         let kept = kept_parts(alloc, reflectance.as_slice(), shares.as_slice(), threshold)?;
+        Ok(System::of_parts(alloc, threshold, reflectance, shares.as_slice(), kept)?)
+    }
+
+    // The system of numbers that passed the tests, beside what each patch keeps.
+    fn of_parts(
+        alloc: Global,
+        threshold: u64,
+        reflectance: Vec<u32>,
+        shares: &[u32],
+        kept: Vec<u64>,
+    ) -> Result<System, AllocError>
+        requires valid { IsSystem (record { threshold = threshold; reflectance = reflectance.items; shares = shares.now }) }
+        requires kept { kept.items ≡ kept_parts (record { threshold = threshold; reflectance = reflectance.items; shares = shares.now }) }
+        ensures { IfOk result (λ s. s ≡ record { threshold = threshold; reflectance = reflectance.items; shares = shares.now }) }
+    {
+        let rows = rows_of(alloc, reflectance.as_slice(), shares)?;
+        let columns = columns_of(alloc, reflectance.as_slice(), shares, rows.as_slice())?;
+        let least = least_of(kept.as_slice());
         Ok(System {
             threshold,
             reflectance,
-            shares,
+            rows,
+            columns,
             kept,
+            least,
         })
     }
 
@@ -100,12 +123,24 @@ impl System {
         self.reflectance[i]
     }
 
-    /// The shares of patch `i`'s flux that fall on each patch, in parts of 10^9.
-    pub fn row(&self, i: usize) -> &[u32]
+    /// The patches that the flux of patch `i` falls on, in order, each with the share of it that does.
+    pub fn row(&self, i: usize) -> &[Entry]
         requires { i < patches self.now }
-        ensures { result.now ≡ share_row self.now i }
+        ensures entries { result.now ≡ row_entries self.now i }
+        ensures inside { All (λ entry. entry.patch < patches self.now) result.now }
+        ensures parts { All (λ entry. entry.share < 10 ^ 9) result.now }
     {
-        row_at(self.shares.as_slice(), self.reflectance.len(), i)
+        self.rows[i].as_slice()
+    }
+
+    /// The patches whose flux falls on patch `j`, in order, each with the share of its flux that does.
+    pub fn column(&self, j: usize) -> &[Entry]
+        requires { j < patches self.now }
+        ensures entries { result.now ≡ column_entries self.now j }
+        ensures inside { All (λ entry. entry.patch < patches self.now) result.now }
+        ensures parts { All (λ entry. entry.share < 10 ^ 9) result.now }
+    {
+        self.columns[j].as_slice()
     }
 
     /// What patch `i` passes on to patch `j` of a nanolumen, in parts of 10^12.
@@ -114,7 +149,22 @@ impl System {
         requires to { j < patches self.now }
         ensures { result ≡ coefficient self.now i j }
     {
-        u64::from(self.reflectance[i]) * u64::from(self.shares[i * self.reflectance.len() + j])
+        u64::from(self.reflectance(i)) * u64::from(self.share(i, j))
+    }
+
+    // The share of patch `i`'s flux that falls on patch `j`.
+    fn share(&self, i: usize, j: usize) -> u32
+        requires from { i < patches self.now }
+        requires to { j < patches self.now }
+        ensures { result ≡ share self.now i j }
+    {
+        prove!(j < self.len());
+        let row = self.row(i);
+        let patch = j as u32;
+        match row.binary_search_by_key(&patch, |entry| entry.patch) {
+            Ok(place) => row[place].share,
+            Err(_) => 0,
+        }
     }
 
     /// What patch `i` keeps of a nanolumen, in parts of 10^12.
@@ -131,7 +181,7 @@ impl System {
         ensures value { result ≡ least_keep self.now }
         ensures positive { 5 * 10 ^ 10 < result }
     {
-        least_of(self.kept.as_slice())
+        self.least
     }
 
     /// How often a direct flux, in nanolumens for each patch, can be taken at most, unless it is past the limits.

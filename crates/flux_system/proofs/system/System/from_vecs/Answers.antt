@@ -1,11 +1,10 @@
-use Rattle.std.proofs.Common.{subst}
+use Rattle.std.proofs.Common.{sym, subst, ◌∙◌}
 use Rattle.flux_system.specs.System.{FluxSystem}
-use Rattle.flux_system.specs.Shapes.{IsSystemWithKept}
+use Rattle.flux_system.specs.Validity.{IsSystem}
 use Rattle.flux_system.proofs.Tests.{valid_where_met}
 use Rattle.flux_system.proofs.system.System.from_vecs.Goals as goal
 
-pub invariant_of-result : goal.invariant_of-result
-invariant_of-result c =
+pub of_parts-requires-clause-valid : goal.of_parts-requires-clause-valid
+of_parts-requires-clause-valid c =
     let s : FluxSystem = record { threshold = c.args.threshold; reflectance = c.as_slice.result.now; shares = c.as_slice-2.result.now } in
-    let with_kept : IsSystemWithKept s c.in_ok-kept.kept.items = record { valid = valid_where_met s c.in_ok-kept.ensures.answer; keeps = c.in_ok-kept.ensures.kept } in
-    subst (λ (q : FluxSystem). IsSystemWithKept q c.in_ok-kept.kept.items) (λ k. record { threshold = c.args.threshold; reflectance = c.as_slice.ensures.value k; shares = c.as_slice-2.ensures.value k }) with_kept
+    subst IsSystem (λ k. record { threshold = c.args.threshold; reflectance = c.as_slice.ensures.value k; shares = (c.as_slice-2.ensures.value ∙ sym c.as_slice-3.ensures.value) k }) (valid_where_met s c.in_ok-kept.ensures.answer)
