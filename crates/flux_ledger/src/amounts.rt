@@ -32,6 +32,13 @@ impl Amounts {
         self.values.as_slice()
     }
 
+    /// How many numbers there are.
+    pub fn len(&self) -> usize
+        ensures { result ≡ length self.now }
+    {
+        self.values.len()
+    }
+
     /// The number of patch `i`.
     #[inline]
     pub fn get(&self, i: usize) -> u64

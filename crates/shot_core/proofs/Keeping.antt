@@ -1,18 +1,19 @@
 -- A shot keeps a ledger balanced and paid, and lowers what is unshot.
-use Rattle.std.proofs.Common.{◌≡◌, ◌≢◌, ℕ, ◌+◌, ◌*◌, ◌/◌, ◌%◌, ◌<◌, ◌≤◌, get_or, set, sym, ap, subst, ◌∙◌, arith, length-set, get_or-set_same, get_or-set_other}
+use Rattle.std.proofs.Common.{◌≡◌, ◌≢◌, ℕ, ◌+◌, ◌*◌, ◌/◌, ◌%◌, ◌<◌, ◌≤◌, List, get_or, set, sym, ap, subst, ◌∙◌, arith, length-set, get_or-set_same, get_or-set_other}
 use Rattle.std.specs.List.{sum}
 use mathlib.Core.Logic.{dite}
 use native.Mathlib.Decide.{ℕ_discrete}
 use Rattle.std.proofs.lemmas.Nat.{mul-le}
 use Rattle.flux_system.specs.Sums.{sum_below}
-use Rattle.flux_system.specs.System.{FluxSystem, scale, patches, coefficient, passed_part, keep}
+use Rattle.flux_system.specs.System.{FluxSystem, scale, patches, share, coefficient, passed_part, keep}
 use Rattle.flux_system.specs.Validity.{IsSystem}
 use Rattle.flux_system.proofs.Sums.{sum-same, sum-add, sum-scale, sum-change, sum-places}
+use Rattle.flux_system.proofs.Dense.{range-same}
 use Rattle.flux_system.proofs.Keeping.{keep-above}
 use Rattle.flux_ledger.specs.declared.ledger.Ledger.{Ledger}
 use Rattle.flux_ledger.specs.Balance.{IsBalanced, IsPaid, passed_to}
 use Rattle.flux_ledger.proofs.Bounds.{Balances, balances, balanced, taken_bound, residual_bound, wins_bound}
-use Rattle.shot_core.specs.Shots.{shot, parts_after}
+use Rattle.shot_core.specs.Shots.{shot, parts_after, amounts_after, fractions_after}
 use Rattle.flux_ledger.specs.Balance.{unshot}
 use Rattle.shot_core.proofs.Lists.{list-at, list-length, set-zero}
 
@@ -26,6 +27,15 @@ module _ (s : FluxSystem) (l : Ledger) (i : ℕ) (inside : i < patches s) (b : B
 
   err_after : (j : ℕ) → j < patches s → get_or (shot s l i).err j 0 ≡ parts_after s i taking l.err j % scale
   err_after j h = list-at (λ k. parts_after s i taking l.err k % scale) (patches s) j h
+
+  -- a patch that gets no share keeps its residual, where its fraction is below a nanolumen
+  pub residual_stays : (j : ℕ) → j < patches s → j ≢ i → share s i j ≡ 0 → get_or l.err j 0 < scale → get_or (shot s l i).residual j 0 ≡ get_or l.residual j 0
+  unfolding coefficient
+  residual_stays j h ne none small =
+      let after = residual_after j h in
+      let stays = get_or-set_other l.residual i j 0 0 ne in
+      let nothing : taking * (get_or s.reflectance i 0 * share s i j) ≡ 0 = ap (λ (x : ℕ). taking * (get_or s.reflectance i 0 * x)) none ∙ omega arith in
+      omega arith
 
   taken_here : get_or (shot s l i).taken i 0 ≡ get_or l.taken i 0 + taking
   taken_here = let long = b.lengths.of_taken in get_or-set_same l.taken i (get_or l.taken i 0 + taking) 0 (omega arith)
@@ -124,3 +134,33 @@ module _ (s : FluxSystem) (valid : IsSystem s) (l : Ledger) (b : IsBalanced s l)
 
   pub wins_fit : l.wins + 1 ≤ 200000000000000000
   wins_fit = wins_bound s valid (shot s l i) shot_stays_balanced limit
+
+  -- once the flux is taken, what is left and what is passed on fits
+  module _ (left err : List ℕ) (t : ℕ) (left_is : left ≡ set l.residual i 0) (err_is : err ≡ l.err) (t_is : t ≡ get_or l.residual i 0) where
+    pub parts_fit : (j : ℕ) → j < patches s → scale * get_or left j 0 + parts_after s i t err j < scale * 18446744073709551616
+    parts_fit j h =
+        let after = residual_after s l i inside (balances s l b) j h in
+        let fits = residual_fits j h in
+        let same : scale * get_or left j 0 + parts_after s i t err j ≡ scale * get_or (set l.residual i 0) j 0 + parts_after s i (get_or l.residual i 0) l.err j = λ k. scale * get_or (left_is k) j 0 + parts_after s i (t_is k) (err_is k) j in
+        omega arith
+
+    -- and so it does with whole nanolumens of the fractions moved
+    pub carried_fit : (carried rest : List ℕ) (j : ℕ) → scale * get_or carried j 0 + get_or rest j 0 ≡ scale * get_or left j 0 + get_or err j 0 → j < patches s → scale * get_or carried j 0 + parts_after s i t rest j < scale * 18446744073709551616
+    carried_fit carried rest j same h = let fits = parts_fit j h in omega arith
+
+    pub carry_fits : (j : ℕ) → j < patches s → scale * get_or left j 0 + get_or err j 0 < scale * 18446744073709551616
+    carry_fits j h = let fits = parts_fit j h in omega arith
+
+-- whole nanolumens of the fractions that move to the residuals don't change what a shot leaves
+module _ (s : FluxSystem) (i t : ℕ) (carried rest left err : List ℕ) (same : (j : ℕ) → j < patches s → scale * get_or carried j 0 + get_or rest j 0 ≡ scale * get_or left j 0 + get_or err j 0) where
+  carried_whole : (a b r e x : ℕ) → scale * a + b ≡ scale * r + e → a + (b + x) / scale ≡ r + (e + x) / scale
+  carried_whole a b r e x is = omega arith
+
+  carried_rest : (a b r e x : ℕ) → scale * a + b ≡ scale * r + e → (b + x) % scale ≡ (e + x) % scale
+  carried_rest a b r e x is = omega arith
+
+  pub carried_amounts : amounts_after s i t carried rest ≡ amounts_after s i t left err
+  carried_amounts = range-same (patches s) _ _ (λ j h. carried_whole (get_or carried j 0) (get_or rest j 0) (get_or left j 0) (get_or err j 0) (t * coefficient s i j) (same j h))
+
+  pub carried_fractions : fractions_after s i t rest ≡ fractions_after s i t err
+  carried_fractions = range-same (patches s) _ _ (λ j h. carried_rest (get_or carried j 0) (get_or rest j 0) (get_or left j 0) (get_or err j 0) (t * coefficient s i j) (same j h))

@@ -1,5 +1,4 @@
 pub mod Lists
-pub mod Brightest
 pub mod Booking
 pub mod Keeping
 pub mod Ending

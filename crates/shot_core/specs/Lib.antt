@@ -1,2 +1,3 @@
 pub mod Shots
 pub mod Settling
+pub mod Shapes

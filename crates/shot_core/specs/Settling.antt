@@ -1,18 +1,15 @@
 -- The settled ledger: the first patch of the greatest residual shoots, again and again while that residual reaches the threshold
 -- (the order of progressive refinement, Cohen, Chen, Wallace and Greenberg 1988).
-use Rattle.std.specs.Prelude.{ℕ, zero, suc, ◌==◌, Bool, if◌then◌else◌, nat_le, max, List, fold, position, unwrap_or, slice_index, replicate}
+use Rattle.std.specs.Prelude.{ℕ, zero, suc, Bool, if◌then◌else◌, nat_le, List, slice_index, replicate}
+use Rattle.picker.specs.Greatest.{greatest_place}
 use Rattle.flux_system.specs.System.{FluxSystem, patches}
 use Rattle.flux_ledger.specs.Balance.{unshot}
 use Rattle.flux_ledger.specs.declared.ledger.Ledger.{Ledger}
 use Rattle.shot_core.specs.Shots.{shot}
 
--- the greatest of some values, 0 where there are none
-abbrev pub greatest_value : List ℕ → ℕ
-greatest_value values = fold max 0 values
-
--- the first place of the greatest value
+-- the first patch of the greatest residual
 abbrev pub brightest_patch : List ℕ → ℕ
-brightest_patch values = unwrap_or (position (λ value. value == greatest_value values) values) 0
+brightest_patch residual = greatest_place residual
 
 -- some residual reaches the threshold
 abbrev pub reaches : FluxSystem → Ledger → Bool

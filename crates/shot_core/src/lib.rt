@@ -5,8 +5,8 @@
 //! of them lead to in `specs/Settling.antt`.
 #![tactic(auto)]
 
+mod brightest;
 mod parts;
-mod places;
 mod settling;
 mod shots;
 

@@ -1,10 +1,14 @@
-// What a shot passes on, cut into whole nanolumens and parts.
-ghost use Rattle.std.specs.Prelude.{◌≡◌, ◌<◌, ◌≤◌, ◌*◌, ◌+◌, ◌/◌, ◌%◌, ◌^◌, length};
+// What a shot passes on, in whole nanolumens and fractions of them.
+ghost use Rattle.std.specs.Prelude.{◌≡◌, ◌<◌, ◌≤◌, ◌*◌, ◌+◌, ◌/◌, ◌%◌, ◌^◌, ℕ, length, slice_index};
 ghost use Rattle.flux_system.specs.System.{patches, scale};
-ghost use Rattle.shot_core.specs.Shots.{amounts_passed, fractions_after};
+ghost use Rattle.shot_core.specs.Shots.{parts_after, amounts_after, fractions_after};
+ghost use Rattle.shot_core.specs.Shapes.{AreSmall};
 
 use flux_ledger::Amounts;
 use flux_system::System;
+
+/// The parts of a nanolumen that fractions are counted in.
+const SCALE: u64 = 1_000_000_000_000;
 
 const BILLION: u64 = 1_000_000_000;
 
@@ -14,35 +18,61 @@ fn split_parts(high: u64, low: u64, share: u64, fraction: u64) -> (u64, u64)
     requires high { high ≤ 9500000000 }
     requires low { low < 10 ^ 9 }
     requires share { share < 10 ^ 9 }
+    requires fraction { fraction < scale }
     ensures amount { result.0 ≡ (fraction + (high * 10 ^ 9 + low) * share) / scale }
     ensures fraction { result.1 ≡ (fraction + (high * 10 ^ 9 + low) * share) % scale }
 {
-    let lower = low * share + fraction % BILLION;
-    let upper = high * share + fraction / BILLION + lower / BILLION;
-    (upper / 1_000, upper % 1_000 * BILLION + lower % BILLION)
+    let upper = high * share;
+    let lower = upper % 1_000 * BILLION + low * share + fraction;
+    (upper / 1_000 + lower / SCALE, lower % SCALE)
 }
 
-// Books a shot of `t` nanolumens from a patch over old fractions: the whole nanolumens for each patch go to `amounts`.
-pub(crate) fn book(
+// Passes on what a shot of `t` nanolumens from a patch gives to the patches of its row, over fractions below a nanolumen.
+// All other patches get nothing, so that their residuals and fractions stay.
+pub(crate) fn pass_on(
     system: &System,
     patch: usize,
     t: u64,
+    residual: &mut Amounts,
     fractions: &mut Amounts,
-    amounts: &mut [u64],
 )
     requires patch { patch < patches system.now }
     requires flux { t ≤ 10 ^ 16 }
+    requires residual { length residual.old ≡ patches system.now }
     requires fractions { length fractions.old ≡ patches system.now }
-    requires amounts { length amounts.old ≡ patches system.now }
-    ensures amounts { amounts.new ≡ amounts_passed system.now patch t fractions.old }
+    requires small { AreSmall fractions.old }
+    requires fits { (j : ℕ) → j < patches system.now → scale * slice_index residual.old j + parts_after system.now patch t fractions.old j < scale * 2 ^ 64 }
+    ensures residual { residual.new ≡ amounts_after system.now patch t residual.old fractions.old }
     ensures fractions { fractions.new ≡ fractions_after system.now patch t fractions.old }
+    ensures small { AreSmall fractions.new }
 {
-    prove_eq!(amounts.len(), system.len());
+    prove!(patch < system.len());
     let factor = t * u64::from(system.reflectance(patch));
     let (high, low) = (factor / BILLION, factor % BILLION);
-    for (target, share) in system.row(patch).iter().enumerate() {
-        let (amount, rest) = split_parts(high, low, u64::from(*share), fractions.get(target));
-        amounts[target] = amount;
+    let row = system.row(patch);
+    for entry in row {
+        let target = entry.patch as usize;
+        let fraction = fractions.get(target);
+        let (amount, rest) = split_parts(high, low, u64::from(entry.share), fraction);
+        let sum = residual.get(target) + amount;
+        residual.set(target, sum);
         fractions.set(target, rest);
+    }
+}
+
+// Moves the whole nanolumens of the fractions to the residuals.
+pub(crate) fn carry(residual: &mut Amounts, fractions: &mut Amounts)
+    requires lengths { length fractions.old ≡ length residual.old }
+    requires fits { (j : ℕ) → j < length residual.old → scale * slice_index residual.old j + slice_index fractions.old j < scale * 2 ^ 64 }
+    ensures residual { length residual.new ≡ length residual.old }
+    ensures fractions { length fractions.new ≡ length residual.old }
+    ensures same { (j : ℕ) → j < length residual.old → scale * slice_index residual.new j + slice_index fractions.new j ≡ scale * slice_index residual.old j + slice_index fractions.old j }
+    ensures small { AreSmall fractions.new }
+{
+    for j in 0..residual.len() {
+        let fraction = fractions.get(j);
+        let sum = residual.get(j) + fraction / SCALE;
+        residual.set(j, sum);
+        fractions.set(j, fraction % SCALE);
     }
 }

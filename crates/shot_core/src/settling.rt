@@ -3,18 +3,20 @@ ghost use Rattle.std.specs.Prelude.{◌≡◌, ◌≤◌, ◌^◌, IfOk, length,
 ghost use Rattle.flux_system.specs.System.{patches};
 ghost use Rattle.flux_ledger.specs.Balance.{IsBalanced, IsFinished, IsPaid};
 ghost use Rattle.shot_core.specs.Settling.{settled_ledger, untouched_ledger};
+ghost use Rattle.shot_core.specs.Shapes.{AreSmall};
 
-use crate::places::brightest_place;
-use crate::shots::shoot;
+use crate::brightest::follow;
+use crate::shots::{shoot, shoot_first};
 use flux_ledger::{Amounts, Ledger};
 use flux_system::System;
+use picker::Tournament;
 use std::alloc::{AllocError, Global};
 use std::marker::Model;
 
 /// What settling needs beside a ledger. Contracts see it as the number of patches that it was made for.
 #[derive(Debug, Drop)]
 pub struct Settler {
-    amounts: Vec<u64>,
+    tournament: Tournament,
 }
 
 impl Model for Settler {
@@ -22,7 +24,7 @@ impl Model for Settler {
 
     ghost Value = { ℕ };
 
-    ghost view = { λ settler. length settler.amounts.items };
+    ghost view = { λ settler. length settler.tournament };
 }
 
 impl Settler {
@@ -31,8 +33,9 @@ impl Settler {
         requires { 1 ≤ n }
         ensures { IfOk result (λ settler. settler ≡ n) }
     {
+        let nothing = Vec::from_elem(alloc, 0, n)?;
         Ok(Settler {
-            amounts: Vec::from_elem(alloc, 0, n)?,
+            tournament: Tournament::new(alloc, nothing.as_slice())?,
         })
     }
 }
@@ -54,28 +57,46 @@ pub fn settle(system: &System, settler: &mut Settler, ledger: &mut Ledger)
     ensures parts { ledger.new.parts ≡ ledger.old.parts }
     ensures settler { settler.new ≡ settler.old }
 {
-    settle_over(system, settler.amounts.as_mut_slice(), ledger);
+    prove_eq!(settler.tournament.len(), system.len());
+    let tournament = &mut settler.tournament;
+    tournament.refill(ledger.residual.as_slice());
+    let (patch, flux) = tournament.best();
+    if flux < system.threshold() {
+        return;
+    }
+    // Fractions of more than one account may be whole nanolumens, until the first shot has carried them.
+    shoot_first(system, patch, ledger);
+    settle_on(system, tournament, ledger);
 }
 
-// Settles a ledger with a place for the amounts of one shot.
-fn settle_over(system: &System, amounts: &mut [u64], ledger: &mut Ledger)
+// Settles a ledger whose fractions are below a nanolumen.
+fn settle_on(system: &System, tournament: &mut Tournament, ledger: &mut Ledger)
     requires balanced { IsBalanced system.now ledger.old }
     requires paid { IsPaid system.now ledger.old }
     requires flux { sum ledger.old.direct ≤ 10 ^ 16 }
-    requires amounts { length amounts.old ≡ patches system.now }
+    requires small { AreSmall ledger.old.err }
+    requires tournament { length tournament.old ≡ patches system.now }
     ensures settled { ledger.new ≡ settled_ledger system.now ledger.old }
     ensures finished { IsFinished system.now ledger.new }
     ensures balanced { IsBalanced system.now ledger.new }
     ensures paid { IsPaid system.now ledger.new }
     ensures direct { ledger.new.direct ≡ ledger.old.direct }
     ensures parts { ledger.new.parts ≡ ledger.old.parts }
+    ensures tournament { length tournament.new ≡ length tournament.old }
 {
-    prove_eq!(amounts.len(), system.len());
+    prove_eq!(tournament.len(), system.len());
     let threshold = system.threshold();
-    let mut place = brightest_place(ledger.residual.as_slice());
-    while ledger.residual.get(place) >= threshold {
-        shoot(system, place, amounts, ledger);
-        place = brightest_place(ledger.residual.as_slice());
+    tournament.refill(ledger.residual.as_slice());
+    let (mut patch, mut flux) = tournament.best();
+    while flux >= threshold {
+        shoot(system, patch, ledger);
+        follow(
+            tournament,
+            patch,
+            system.row(patch),
+            ledger.residual.as_slice(),
+        );
+        (patch, flux) = tournament.best();
     }
 }
 
