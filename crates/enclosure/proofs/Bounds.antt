@@ -15,10 +15,7 @@ use Rattle.flux_ledger.specs.Balance.{unshot_at, unshot}
 use Rattle.flux_ledger.proofs.Bounds.{balances, conserved, unshot_bound}
 use Rattle.enclosure.specs.Interval.{spill_of, greatest_below, rise_from, low_end, high_end, interval_of, intervals_of, IsDone}
 use Rattle.enclosure.proofs.Fractions.{div_ceil-le}
-
-greatest-le : (n : ℕ) (f : ℕ → ℕ) (m : ℕ) → ((i : ℕ) → i < n → f i ≤ m) → greatest_below n f ≤ m
-greatest-le zero f m h = omega arith
-greatest-le (suc n) f m h = omega (arith, greatest-le n f m (λ i l. h i (omega arith)), h n (omega arith))
+use Rattle.enclosure.proofs.Greatest.{greatest-le}
 
 sum-all : (n k : ℕ) → sum_below n (λ _. k) ≡ n * k
 sum-all zero k = omega arith

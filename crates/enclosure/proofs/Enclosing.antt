@@ -1,5 +1,5 @@
 -- The interval encloses what every solution has.
-use Rattle.std.proofs.Common.{◌≡◌, ℕ, zero, suc, ◌+◌, ◌*◌, ◌<◌, ◌≤◌, get_or, ap, subst, sym, arith, ℤ, pos, ◌≤ℤ◌, ◌-ℤ◌}
+use Rattle.std.proofs.Common.{◌≡◌, ℕ, ◌+◌, ◌*◌, ◌<◌, ◌≤◌, get_or, ap, subst, sym, arith, ℤ, pos, ◌≤ℤ◌, ◌-ℤ◌}
 use Rattle.std.specs.Prelude.{slice_index}
 use Rattle.std.proofs.lemmas.Int.{ints}
 use Rattle.std.proofs.lemmas.Nat.{mul-le}
@@ -19,11 +19,7 @@ use Rattle.exact_model.specs.Solution.{IsSolution, Encloses}
 use Rattle.exact_model.proofs.Missing.{missing_flux}
 use Rattle.exact_model.proofs.Solutions.{IsNatural, natural_of}
 use Rattle.enclosure.specs.Interval.{spill_of, greatest_below, rise_from, low_end, high_end, interval_of, IsDone, EnclosesAll}
-
-le-greatest : (n : ℕ) (f : ℕ → ℕ) (i : ℕ) → i < n → f i ≤ greatest_below n f
-le-greatest zero f i h = absurd (omega arith)
-le-greatest (suc n) f i h =
-    dite (ℕ_discrete i n) (λ e. let same : f i ≡ f n = ap f e in omega arith) (λ ne. let le = le-greatest n f i (omega arith) in omega arith)
+use Rattle.enclosure.proofs.Greatest.{le-greatest}
 
 -- What is passed on of x is bounded by its whole weight, total * spill: where m weighs each c times the spill, it is at most m * total.
 module _ (n : ℕ) (c x w : ℕ → ℕ) (some : (i : ℕ) → i < n → 0 < w i) (m spill total : ℕ) (rises : (i : ℕ) → i < n → c i * spill ≤ m * w i) (weighed : sum_below n (λ i. x i * w i) ≤ total * spill) where

@@ -1,6 +1,6 @@
 -- Shapes that only the code stands on: fractions of what is kept at a patch, of which the greatest gives the end of an
 -- interval for any spill. No public clause cites these.
-use Rattle.std.specs.Prelude.{◌≡◌, ℕ, ◌*◌, ◌<◌, List, length, slice_index_or}
+use Rattle.std.specs.Prelude.{◌≡◌, ℕ, ◌*◌, ◌<◌}
 use Rattle.std.specs.Int.{div_ceil}
 use Rattle.flux_system.specs.System.{FluxSystem, patches}
 use Rattle.enclosure.specs.declared.fraction.Fraction.{Fraction}
@@ -10,12 +10,7 @@ use Rattle.enclosure.specs.Interval.{greatest_below, rise_from}
 abbrev pub part_of : Fraction → ℕ → ℕ
 part_of f amount = div_ceil (f.parts * amount) f.whole
 
--- of whatever spills, the fraction is the greatest rise of patch j from the patches below n
-pub record IsGreatest (s : FluxSystem) (n j : ℕ) (f : Fraction) : Type 0 where
+-- of whatever spills, the fraction is the greatest rise of patch j
+pub record IsGreatest (s : FluxSystem) (j : ℕ) (f : Fraction) : Type 0 where
   pub whole : 0 < f.whole
-  pub rises : (spill : ℕ) → part_of f spill ≡ greatest_below n (rise_from s spill j)
-
--- each patch has such a fraction
-pub record AreGreatest (s : FluxSystem) (n : ℕ) (fractions : List Fraction) : Type 0 where
-  pub count : length fractions ≡ patches s
-  pub each : (j : ℕ) (d : Fraction) → j < patches s → IsGreatest s n j (slice_index_or fractions j d)
+  pub rises : (spill : ℕ) → part_of f spill ≡ greatest_below (patches s) (rise_from s spill j)

@@ -7,7 +7,7 @@ ghost use Rattle.enclosure.specs.Shapes.{IsGreatest};
 ghost use Rattle.enclosure.specs.Interval.{spill_of, interval_of, intervals_of, IsDone, EnclosesAll};
 
 use crate::fraction::Fraction;
-use crate::rises::{greatest_at, greatest_everywhere};
+use crate::rises::greatest_at;
 use flux_ledger::Ledger;
 use flux_system::System;
 use std::alloc::{AllocError, Global};
@@ -34,7 +34,7 @@ pub fn spill(system: &System, ledger: &Ledger) -> u64
 fn ends(system: &System, ledger: &Ledger, spilled: u64, greatest: Fraction, j: usize) -> (u64, u64)
     requires done { IsDone system.now ledger.now }
     requires spilled { spilled ≡ spill_of system.now ledger.now }
-    requires greatest { IsGreatest system.now (patches system.now) j greatest }
+    requires greatest { IsGreatest system.now j greatest }
     requires patch { j < patches system.now }
     ensures value { result ≡ interval_of system.now ledger.now j }
     ensures order { result.0 ≤ result.1 }
@@ -74,10 +74,9 @@ pub fn all(alloc: Global, system: &System, ledger: &Ledger) -> Result<Vec<(u64, 
     ensures encloses { IfOk result (λ _. EnclosesAll system.now ledger.now) }
 {
     let spilled = spill(system, ledger);
-    let greatest = greatest_everywhere(alloc, system)?;
     let mut intervals = Vec::with_capacity(alloc, system.len())?;
     for j in 0..system.len() {
-        intervals.push(ends(system, ledger, spilled, greatest[j], j))?;
+        intervals.push(ends(system, ledger, spilled, greatest_at(system, j), j))?;
     }
     Ok(intervals)
 }

@@ -21,7 +21,7 @@ impl Fraction {
     {
         let left = u128::from(self.parts) * u128::from(other.whole);
         let right = u128::from(other.parts) * u128::from(self.whole);
-        if left < right { other } else { self }
+        if left < right { raised(other) } else { self }
     }
 
     // So much of an amount, rounded up.
@@ -31,4 +31,13 @@ impl Fraction {
     {
         (u128::from(self.parts) * u128::from(amount)).div_ceil(u128::from(self.whole))
     }
+}
+
+// The greater fraction, where it is a new one. Few are, so the way on with the old one is laid out as the straight one.
+#[cold]
+#[inline(never)]
+fn raised(fraction: Fraction) -> Fraction
+    ensures { result ≡ fraction }
+{
+    fraction
 }

@@ -1,55 +1,29 @@
 // The greatest fraction of what is kept at one patch that another patch gets of it.
-ghost use Rattle.std.specs.Prelude.{◌≡◌, ◌+◌, ◌<◌, IfOk};
+ghost use Rattle.std.specs.Prelude.{◌<◌};
 ghost use Rattle.flux_system.specs.System.{patches};
-ghost use Rattle.enclosure.specs.Shapes.{IsGreatest, AreGreatest};
+ghost use Rattle.enclosure.specs.Shapes.{IsGreatest};
 
 use crate::fraction::Fraction;
 use flux_system::System;
-use std::alloc::{AllocError, Global};
 
 // Before any patch is looked at.
 const NOTHING: Fraction = Fraction { parts: 0, whole: 1 };
 
-// The greatest fraction that patch j gets.
+// The greatest fraction that patch j gets. A patch whose flux doesn't fall on it raises it by nothing. Its loop is a
+// function of its own in the program too, since the numbers of the loop fill the registers.
+#[inline(never)]
 pub fn greatest_at(system: &System, j: usize) -> Fraction
     requires { j < patches system.now }
-    ensures { IsGreatest system.now (patches system.now) j result }
+    ensures { IsGreatest system.now j result }
 {
     let mut greatest = NOTHING;
-    for i in 0..system.len() {
+    let column = system.column(j);
+    for entry in column {
+        let patch = entry.patch as usize;
         greatest = greatest.greater(Fraction {
-            parts: system.coef(i, j),
-            whole: system.keep(i),
+            parts: u64::from(system.reflectance(patch)) * u64::from(entry.share),
+            whole: system.keep(patch),
         });
     }
     greatest
-}
-
-// The greatest fraction that each patch gets, row by row.
-pub fn greatest_everywhere(alloc: Global, system: &System) -> Result<Vec<Fraction>, AllocError>
-    ensures { IfOk result (λ greatest. AreGreatest system.now (patches system.now) greatest.items) }
-{
-    let mut greatest = Vec::from_elem(alloc, NOTHING, system.len())?;
-    for i in 0..system.len() {
-        raise(system, i, greatest.as_mut_slice());
-    }
-    Ok(greatest)
-}
-
-// Takes, at each patch, what patch i passes on to it where that is greater.
-fn raise(system: &System, i: usize, greatest: &mut [Fraction])
-    requires patch { i < patches system.now }
-    requires before { AreGreatest system.now i greatest.old }
-    ensures { AreGreatest system.now (i + 1) greatest.new }
-{
-    let reflectance = u64::from(system.reflectance(i));
-    let whole = system.keep(i);
-    let row = system.row(i);
-    prove_eq!(row.len(), greatest.len());
-    for (j, share) in row.iter().enumerate() {
-        greatest[j] = greatest[j].greater(Fraction {
-            parts: reflectance * u64::from(*share),
-            whole,
-        });
-    }
 }
