@@ -16,6 +16,7 @@ use project_file::Project;
 use room_patches::Room;
 use std::alloc::Global;
 use std::marker::Model;
+use std::thread::Threads;
 
 /// A project with the webs of its files, its room, its placed luminaires, the flux system of the room and the direct flux
 /// of the luminaires. Contracts see it as the project and the webs, from which all else follows.
@@ -42,8 +43,14 @@ impl Model for LitRoom {
 
 impl LitRoom {
     /// The lit room of a project and of a web for each of its files, in their order. It is refused by the first test that
-    /// fails: of the room, of the luminaires, of the direct flux and the bound of takes.
-    pub fn new(alloc: Global, project: Project, webs: Vec<Web>) -> Result<LitRoom, LightFault>
+    /// fails: of the room, of the luminaires, of the direct flux and the bound of takes. The shares of a large room are made
+    /// in threads.
+    pub fn new(
+        rt: &(impl Threads + Sync),
+        alloc: Global,
+        project: Project,
+        webs: Vec<Web>,
+    ) -> Result<LitRoom, LightFault>
         requires { length webs.items ≡ length project.files }
         ensures ok { IfOk result (λ lit_room. lit_room_of (record { project = project; webs = webs.items }) ≡ Ok lit_room) }
         ensures fault { IfErr result (λ answer. answer ≢ fault.Memory → lit_room_of (record { project = project; webs = webs.items }) ≡ Err answer) }
@@ -60,7 +67,7 @@ impl LitRoom {
             Ok(flux) => flux,
             Err(fault) => return Err(fault),
         };
-        let system = match make_system(alloc, &room, project.threshold()) {
+        let system = match make_system(rt, alloc, &room, project.threshold()) {
             Ok(system) => system,
             Err(fault) => return Err(fault),
         };

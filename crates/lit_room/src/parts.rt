@@ -18,6 +18,7 @@ use flux_system::{LimitFault, System};
 use photo_web::Web;
 use room_patches::{Room, RoomFault, RoomSpec};
 use std::alloc::Global;
+use std::thread::Threads;
 use transfer_shares::{all_rows, reflectances};
 
 /// The room, where it is valid.
@@ -72,14 +73,19 @@ pub(crate) fn light_patches(
     }
 }
 
-/// The flux system of a room, which is always accepted.
-pub(crate) fn make_system(alloc: Global, room: &Room, threshold: u64) -> Result<System, LightFault>
+/// The flux system of a room, which is always accepted. Its shares are made in threads.
+pub(crate) fn make_system(
+    rt: &(impl Threads + Sync),
+    alloc: Global,
+    room: &Room,
+    threshold: u64,
+) -> Result<System, LightFault>
     requires some { 1 ≤ threshold }
     requires limited { threshold ≤ 10 ^ 16 }
     ensures system { IfOk result (λ system. system ≡ room_system room.now threshold) }
     ensures fault { IfErr result (λ answer. answer ≡ fault.Memory) }
 {
-    let Ok(shares) = all_rows(alloc, room) else {
+    let Ok(shares) = all_rows(rt, alloc, room) else {
         return Err(LightFault::Memory);
     };
     let Ok(reflectance) = reflectances(alloc, room) else {

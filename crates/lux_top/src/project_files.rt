@@ -11,12 +11,14 @@ use lux_plans::read_file;
 use photo_web::Web;
 use project_file::{ProjFault, Project, read_project};
 use std::alloc::Global;
+use std::thread::Threads;
 
 /// The most bytes of a project file.
 const PROJECT_LIMIT: usize = 4_194_304;
 
 /// The lit room of a file.
 pub(crate) fn read_lit_room<S: Shelf>(
+    rt: &(impl Threads + Sync),
     alloc: Global,
     name: &Name,
     shelf: &mut S,
@@ -24,7 +26,7 @@ pub(crate) fn read_lit_room<S: Shelf>(
     ensures { Takes (lit_room_file name.now) (S.state shelf.old) (S.state shelf.new) result }
 {
     match read_project_file(alloc, name, shelf) {
-        Ok(project) => light_project(alloc, project, shelf),
+        Ok(project) => light_project(rt, alloc, project, shelf),
         Err(answer) => Err(answer),
     }
 }
@@ -53,6 +55,7 @@ fn accept_text(alloc: Global, text: Vec<u8>) -> Result<Project, Answer>
 
 // The lit room of a project, once its photometry files are read.
 fn light_project<S: Shelf>(
+    rt: &(impl Threads + Sync),
     alloc: Global,
     project: Project,
     shelf: &mut S,
@@ -60,7 +63,7 @@ fn light_project<S: Shelf>(
     ensures { Takes (lit_project project) (S.state shelf.old) (S.state shelf.new) result }
 {
     match read_webs(alloc, project.files(), shelf) {
-        Ok(webs) => light(alloc, project, webs),
+        Ok(webs) => light(rt, alloc, project, webs),
         Err(answer) => Err(answer),
     }
 }
@@ -91,11 +94,16 @@ fn read_web<S: Shelf>(alloc: Global, name: &Name, shelf: &mut S) -> Result<Web, 
 }
 
 // The lit room of a project and its webs.
-fn light(alloc: Global, project: Project, webs: Vec<Web>) -> Result<LitRoom, Answer>
+fn light(
+    rt: &(impl Threads + Sync),
+    alloc: Global,
+    project: Project,
+    webs: Vec<Web>,
+) -> Result<LitRoom, Answer>
     requires { length webs.items ≡ length project.files }
     ensures { Gives (lit_room (record { project = project; webs = webs.items })) result }
 {
-    match LitRoom::new(alloc, project, webs) {
+    match LitRoom::new(rt, alloc, project, webs) {
         Ok(lit_room) => Ok(lit_room),
         Err(LightFault::Room(fault)) => Err(Answer::Room(fault)),
         Err(LightFault::Fixture(fault)) => Err(Answer::Fixture(fault)),

@@ -10,13 +10,16 @@ use lux_answers::{Answer, Outcome};
 use lux_io::{Name, Shelf, Sink};
 use lux_plans::{Writing, conclude};
 use std::alloc::Global;
+use std::thread::Threads;
 
 /// Reads the project of that name and each photometry file that it names, lights its room, settles its flux from nothing
-/// taken, and writes the ledger's text with an interval for each patch, which encloses the exact solution.
+/// taken, and writes the ledger's text with an interval for each patch, which encloses the exact solution. The shares
+/// of a large room are made in threads.
 ///
 /// The answers are `Done` with the settled ledger, `Read`, `TooLong`, `Project`, `Photometry`, `Room`, `Fixture`, `Limits`,
 /// `Write` and `Memory`.
 pub fn run<S: Shelf, K: Sink, N: Sink>(
+    rt: &(impl Threads + Sync),
     alloc: Global,
     name: &Name,
     shelf: &mut S,
@@ -32,14 +35,19 @@ pub fn run<S: Shelf, K: Sink, N: Sink>(
         (world (S.state shelf.new) (K.state out.new) (N.state notes.new))
         result.answer }
 {
-    let decided = decide(alloc, name, shelf);
+    let decided = decide(rt, alloc, name, shelf);
     conclude(alloc, decided, out, notes)
 }
 
-fn decide<S: Shelf>(alloc: Global, name: &Name, shelf: &mut S) -> Result<Writing, Answer>
+fn decide<S: Shelf>(
+    rt: &(impl Threads + Sync),
+    alloc: Global,
+    name: &Name,
+    shelf: &mut S,
+) -> Result<Writing, Answer>
     ensures { Takes (run_plan name.now) (S.state shelf.old) (S.state shelf.new) result }
 {
-    match read_lit_room(alloc, name, shelf) {
+    match read_lit_room(rt, alloc, name, shelf) {
         Ok(lit_room) => settle(alloc, lit_room.system(), lit_room.flux()),
         Err(answer) => Err(answer),
     }

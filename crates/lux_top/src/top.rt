@@ -18,9 +18,9 @@ use std::thread::Threads;
 /// to `notes` for each answer but `Done`. Words that are no command answer `Usage`.
 ///
 /// The bytes are made whole and then put in pieces of 4,096, so that an answer other than `Done` and `Write` writes
-/// nothing. `rt` and `gate` are for commands that start shooters.
-pub fn lux<R: Threads + Wait, S: Shelf, K: Sink, N: Sink, G: Gate>(
-    _rt: &R,
+/// nothing. `rt` starts the threads that make a room's shares; `gate` is for commands that start shooters.
+pub fn lux<R: Threads + Wait + Sync, S: Shelf, K: Sink, N: Sink, G: Gate>(
+    rt: &R,
     alloc: Global,
     words: &[String],
     shelf: &mut S,
@@ -40,12 +40,13 @@ pub fn lux<R: Threads + Wait, S: Shelf, K: Sink, N: Sink, G: Gate>(
     match read_words(alloc, words) {
         Err(_) => conclude(alloc, Err(Answer::Memory), out, notes),
         Ok(None) => conclude(alloc, Err(Answer::Usage), out, notes),
-        Ok(Some(command)) => obey(alloc, command, shelf, out, notes),
+        Ok(Some(command)) => obey(rt, alloc, command, shelf, out, notes),
     }
 }
 
 // Does a command.
 fn obey<S: Shelf, K: Sink, N: Sink>(
+    rt: &(impl Threads + Sync),
     alloc: Global,
     command: Command,
     shelf: &mut S,
@@ -64,6 +65,6 @@ fn obey<S: Shelf, K: Sink, N: Sink>(
     match command {
         Command::Solve(name) => solve(alloc, &name, shelf, out, notes),
         Command::Photo(name) => photo(alloc, &name, shelf, out, notes),
-        Command::Run(name) => run(alloc, &name, shelf, out, notes),
+        Command::Run(name) => run(rt, alloc, &name, shelf, out, notes),
     }
 }

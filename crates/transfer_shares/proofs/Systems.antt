@@ -37,6 +37,9 @@ module _ (room : RoomSpec) where
   unfolding all_shares
   square = length-rows (share_row_from room) (length (reflectances_of room)) length-row (patches room) ∙ ap (λ (k : ℕ). k * length (reflectances_of room)) (sym length-reflectances)
 
+  pub length-all_shares : (n : ℕ) → n ≡ length (patches room) → length (all_shares room) ≡ n * n
+  length-all_shares n is = let long = length-reflectances in square ∙ (λ k. (long ∙ sym is) k * (long ∙ sym is) k)
+
   total-le : (threshold i : ℕ) → i < length (patches room) → row_total (room_system room threshold) i ≤ 999999999
   unfolding all_shares
   total-le threshold i h =

@@ -1,8 +1,9 @@
 -- The shares of a row sum to less than the whole.
-use Rattle.std.proofs.Common.{◌≡◌, ℕ, zero, suc, ◌*◌, ◌/◌, ◌<◌, ◌≤◌, ◌⊎◌, inl, inr, List, [], ◌∷◌, map, refl, subst, arith}
+use Rattle.std.proofs.Common.{◌≡◌, ℕ, zero, suc, ◌*◌, ◌/◌, ◌<◌, ◌≤◌, ◌⊎◌, inl, inr, List, [], ◌∷◌, map, length, take, refl, sym, subst, ap, ◌∙◌, arith}
 use Rattle.std.specs.List.{sum}
 use Rattle.std.proofs.lemmas.Bool.{cases_lt, ne_eqb}
 use Rattle.std.proofs.lemmas.Nat.{mul-le, div-add-mod'}
+use Rattle.std.proofs.lemmas.List.{take_all}
 use Rattle.std.proofs.lemmas.List.Sums.{sum_by-cons}
 use Rattle.transfer_shares.specs.Shares.{weight_share, shares_of}
 
@@ -12,7 +13,7 @@ no_shares [] = refl
 no_shares (w ∷ weights) = let more = sum_by-cons (λ (x : ℕ). x) 0 (map (weight_share 0) weights) in let none = no_shares weights in omega arith
 
 module _ (total : ℕ) (some : 0 < total) where
-  share-is : (w : ℕ) → weight_share total w ≡ w * 999999999 / total
+  pub share-is : (w : ℕ) → weight_share total w ≡ w * 999999999 / total
   share-is w = rw (ne_eqb total 0 (λ e. omega arith)) refl
 
   share-le : (w : ℕ) → weight_share total w * total ≤ w * 999999999
@@ -48,3 +49,8 @@ shares_of-le weights = total-le (sum weights) weights refl
 pub shares_by_total : (weights shares : List ℕ) (total : ℕ) → total ≡ sum weights → shares ≡ map (weight_share total) weights → shares ≡ shares_of weights
 unfolding shares_of
 shares_by_total weights shares total e h = subst (λ (t : ℕ). shares ≡ map (weight_share t) weights) e h
+
+-- the same once all places are written
+pub shares_by_places : (i total : ℕ) (weights into : List ℕ) → total ≡ sum weights → length into ≡ length weights → length weights ≤ i → take i into ≡ map (weight_share total) (take i weights) → into ≡ shares_of weights
+shares_by_places i total weights into e same done h =
+    shares_by_total weights into total e (sym (take_all i into (omega arith)) ∙ h ∙ ap (map (weight_share total)) (take_all i weights done))

@@ -1,5 +1,5 @@
 -- What the flux from one patch to another weighs, and how much at most.
-use Rattle.std.proofs.Common.{◌≡◌, ℕ, ◌*◌, ◌/◌, ◌<◌, ◌≤◌, ◌⊎◌, inl, inr, refl, arith}
+use Rattle.std.proofs.Common.{◌≡◌, ℕ, ◌*◌, ◌/◌, ◌<◌, ◌≤◌, ◌⊎◌, inl, inr, refl, ap, ◌∙◌, arith}
 use Rattle.std.proofs.lemmas.Bool.{cases_lt, lt-ltb, le-ltb, and_from, and_left, and_right}
 use Rattle.std.proofs.lemmas.Nat.{mul-le, div_below}
 use Rattle.room_patches.specs.declared.patch.Patch.{Patch}
@@ -21,6 +21,12 @@ module _ (from to : Patch) (a b : ℕ) (a_is : a ≡ distance_ahead from to) (b_
     weighty area area_is =
         rw (and_from _ _ (lt-ltb 0 (distance_ahead from to) (omega arith)) (lt-ltb 0 (distance_ahead to from) (omega arith)))
         (λ k. 1000000000000000 * a_is k * b_is k * area_is k / (r_is k * r_is k))
+
+    -- the two distances and the area may be multiplied first
+    pub weighty_by_product : (area top : ℕ) → area ≡ to.area → top ≡ a * b * area → 1000000000000000 * top / (r * r) ≡ weight from to
+    weighty_by_product area top area_is top_is =
+        let same : 1000000000000000 * top ≡ 1000000000000000 * a * b * area = omega arith in
+        ap (λ (k : ℕ). k / (r * r)) same ∙ weighty area area_is
 
     module _ (valid_from : IsPatch from) (valid_to : IsPatch to) where
       -- two centres are no nearer than each of them is to the other's plane
@@ -51,3 +57,6 @@ module _ (from to : Patch) (a b : ℕ) (a_is : a ≡ distance_ahead from to) (b_
           let whole : 1000000000000000 * a * b * area < 10000000000000000000000001 * (r * r) = omega arith in
           let below = div_below (1000000000000000 * a * b * area) (r * r) 10000000000000000000000001 apart whole in
           omega arith
+
+      pub weight_is-le : (area : ℕ) → area ≡ to.area → weight from to ≤ 10000000000000000000000000
+      weight_is-le area area_is = let le = weight-le area area_is in let is = weighty area area_is in omega arith

@@ -1,16 +1,15 @@
-// The shares of a room, row by row.
-ghost use Rattle.std.specs.Prelude.{◌≡◌, ℕ, ◌-◌, ◌<◌, ◌≤◌, ◌^◌, None, IfOk, All, length, map, sum};
-ghost use Rattle.duties.specs.Duties.{first};
+// One row of the shares of a room, by the formulas of the definition.
+ghost use Rattle.std.specs.Prelude.{◌≡◌, ◌-◌, ◌<◌, ◌≤◌, ◌^◌, IfOk, All, length, map, sum};
 ghost use Rattle.room_patches.specs.Patches.{patches, IsPatch};
-ghost use Rattle.flux_system.specs.Validity.{system_duties};
-ghost use Rattle.transfer_shares.specs.Shares.{weight, shares_of, room_share_row, all_shares, reflectances_of, room_system};
+ghost use Rattle.transfer_shares.specs.Shares.{weight, shares_of, room_share_row, reflectances_of};
 
 use crate::sharing::share_out;
 use crate::weighing::weigh;
 use room_patches::{MOST_PATCHES, Patch, Room};
 use std::alloc::{AllocError, Global};
 
-/// Writes the shares of the flux from patch `i` that fall on each patch, in parts of 10^9.
+/// Writes the shares of the flux from patch `i` that fall on each patch, in parts of 10^9. [`all_rows`](crate::all_rows)
+/// has faster ways, where many rows are wanted.
 pub fn shares_row(room: &Room, i: usize, into: &mut [u32])
     requires row { i < length (patches room.now) }
     requires places { length into.old ≡ length (patches room.now) }
@@ -20,24 +19,6 @@ pub fn shares_row(room: &Room, i: usize, into: &mut [u32])
     prove_eq!(into.len(), room.len());
     let patches = room.patches();
     write_row(&patches[i], patches, into);
-}
-
-/// The shares of all patches, a row for each. With them and with the [`reflectances`] of the room a flux system of any
-/// threshold within the limits is accepted.
-pub fn all_rows(alloc: Global, room: &Room) -> Result<Vec<u32>, AllocError>
-    ensures rows { IfOk result (λ shares. shares.items ≡ all_shares room.now) }
-    ensures accepted { (threshold : ℕ) → 1 ≤ threshold → threshold ≤ 10 ^ 16 → first (system_duties (room_system room.now threshold)) ≡ None }
-{
-    let n = room.len();
-    let patches = room.patches();
-    let mut row = [0u32; MOST_PATCHES];
-    let row = &mut row[..n];
-    let mut shares = Vec::with_capacity(alloc, n * n)?;
-    for from in patches {
-        write_row(from, patches, row);
-        shares.extend_from_slice(row)?;
-    }
-    Ok(shares)
 }
 
 /// The reflectance of each patch in per mille.

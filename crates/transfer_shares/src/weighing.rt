@@ -9,7 +9,7 @@ use room_patches::{MOST_PATCHES, Patch, squared_distance};
 const SCALE: u128 = 1_000_000_000_000_000;
 
 // What the flux from one patch to another weighs.
-fn weight(from: &Patch, to: &Patch) -> u128
+pub(crate) fn weight(from: &Patch, to: &Patch) -> u128
     requires from { IsPatch from.now }
     requires to { IsPatch to.now }
     ensures value { result ≡ weight from.now to.now }

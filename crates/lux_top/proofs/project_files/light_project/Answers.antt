@@ -1,4 +1,4 @@
-use Rattle.std.proofs.Common.{◌∙◌, length, ap}
+use Rattle.std.proofs.Common.{◌∙◌, length, ap, rules}
 use Rattle.lux_plans.specs.Plans.{each}
 use Rattle.lux_plans.proofs.Chains.{takes_gives, takes_refused}
 use Rattle.lux_plans.proofs.Steps.{takes_as_many}
@@ -6,7 +6,7 @@ use Rattle.lux_top.specs.ProjectFiles.{web_file, lit_room}
 use Rattle.lux_top.proofs.project_files.light_project.Goals as goal
 
 pub light-requires : goal.light-requires
-light-requires g c = takes_as_many web_file _ _ _ _ c.in-Ok.ensures ∙ ap length c.files.ensures.value
+light-requires g c = (search rules, takes_as_many web_file _ _ _ _ c.in-Ok.ensures ∙ ap length c.files.ensures.value)
 
 pub returns-in-Ok : goal.returns-in-Ok
 returns-in-Ok g c =

@@ -6,33 +6,33 @@ use Rattle.lit_room.proofs.Making.{no_room, no_fixture, past_limit, all_passed, 
 use Rattle.lit_room.proofs.lit_rooms.LitRoom.new.Goals as goal
 
 pub returns-in-Err-clause-fault : goal.returns-in-Err-clause-fault
-returns-in-Err-clause-fault c = λ ne. no_room _ _ _ _ c.room.ensures refl refl _ (c.in-Err.ensures.answer ne)
+returns-in-Err-clause-fault g c = λ ne. no_room _ _ _ _ c.room.ensures refl refl _ (c.in-Err.ensures.answer ne)
 
 pub returns-in-Err-place_all-clause-fault : goal.returns-in-Err-place_all-clause-fault
-returns-in-Err-place_all-clause-fault c = λ ne. no_fixture _ _ _ _ c.room.ensures c.in-Ok.ensures.room c.fixtures.ensures.value c.in-Ok.ensures.answer _ (c.in-Err-place_all.ensures.answer ne)
+returns-in-Err-place_all-clause-fault g c = λ ne. no_fixture _ _ _ _ c.room.ensures c.in-Ok.ensures.room c.fixtures.ensures.value c.in-Ok.ensures.answer _ (c.in-Err-place_all.ensures.answer ne)
 
 pub light_patches-requires-clause-webs : goal.light_patches-requires-clause-webs
-light_patches-requires-clause-webs c =
+light_patches-requires-clause-webs g c =
     webs_in_range _ _ _ _ (c.deref.ensures.value ∙ c.in-Ok-place_all.ensures.fixtures) c.fixtures.ensures.webs (ap length c.deref-2.ensures.value ∙ c.requires)
 
 pub returns-in-Err-light_patches-clause-fault : goal.returns-in-Err-light_patches-clause-fault
-returns-in-Err-light_patches-clause-fault c = λ ne.
+returns-in-Err-light_patches-clause-fault g c = λ ne.
     let flux = flux_is (record { project = c.args.project; webs = c.args.webs.items }) _ _ _ c.room.ensures c.in-Ok.ensures.room c.fixtures.ensures.value _ _ (c.deref.ensures.value ∙ c.in-Ok-place_all.ensures.fixtures) c.deref-2.ensures.value in
     past_limit (record { project = c.args.project; webs = c.args.webs.items }) _ _ _ c.room.ensures c.in-Ok.ensures.room c.fixtures.ensures.value c.in-Ok.ensures.answer c.in-Ok-place_all.ensures.answer _ _ refl flux _ (c.in-Err-light_patches.ensures.fault ne _)
 
 pub test_limits-requires : goal.test_limits-requires
-test_limits-requires c =
+test_limits-requires g c =
     ap length (c.deref-3.ensures.value ∙ c.in-Ok-light_patches.ensures.flux) ∙ (a_flux_each _ c.threshold.result _ _ ∙ ap (λ (s : FluxSystem). patches s) (sym c.in-Ok-make_system.ensures.system))
 
 pub returns-in-Err-test_limits-clause-fault : goal.returns-in-Err-test_limits-clause-fault
-returns-in-Err-test_limits-clause-fault c = λ ne.
+returns-in-Err-test_limits-clause-fault g c = λ ne.
     let flux = flux_is (record { project = c.args.project; webs = c.args.webs.items }) _ _ _ c.room.ensures c.in-Ok.ensures.room c.fixtures.ensures.value _ _ (c.deref.ensures.value ∙ c.in-Ok-place_all.ensures.fixtures) c.deref-2.ensures.value in
     let system = system_is (record { project = c.args.project; webs = c.args.webs.items }) _ _ _ c.room.ensures c.in-Ok.ensures.room c.fixtures.ensures.value _ c.threshold.ensures.value in
     past_limit (record { project = c.args.project; webs = c.args.webs.items }) _ _ _ c.room.ensures c.in-Ok.ensures.room c.fixtures.ensures.value c.in-Ok.ensures.answer c.in-Ok-place_all.ensures.answer _ _
     (c.in-Ok-make_system.ensures.system ∙ system) (c.deref-3.ensures.value ∙ (c.in-Ok-light_patches.ensures.flux ∙ flux)) _ (c.in-Err-test_limits.ensures ne)
 
 pub invariant_of-result : goal.invariant_of-result
-invariant_of-result c =
+invariant_of-result g c =
     let flux = flux_is (record { project = c.args.project; webs = c.args.webs.items }) _ _ _ c.room.ensures c.in-Ok.ensures.room c.fixtures.ensures.value _ _ (c.deref.ensures.value ∙ c.in-Ok-place_all.ensures.fixtures) c.deref-2.ensures.value in
     let system = system_is (record { project = c.args.project; webs = c.args.webs.items }) _ _ _ c.room.ensures c.in-Ok.ensures.room c.fixtures.ensures.value _ c.threshold.ensures.value in
     record {
@@ -47,7 +47,7 @@ invariant_of-result c =
     }
 
 pub returns-clause-ok : goal.returns-clause-ok
-returns-clause-ok c =
+returns-clause-ok g c =
     let flux = flux_is (record { project = c.args.project; webs = c.args.webs.items }) _ _ _ c.room.ensures c.in-Ok.ensures.room c.fixtures.ensures.value _ _ (c.deref.ensures.value ∙ c.in-Ok-place_all.ensures.fixtures) c.deref-2.ensures.value in
     let system = system_is (record { project = c.args.project; webs = c.args.webs.items }) _ _ _ c.room.ensures c.in-Ok.ensures.room c.fixtures.ensures.value _ c.threshold.ensures.value in
     all_passed (record { project = c.args.project; webs = c.args.webs.items }) _ _ _ c.room.ensures c.in-Ok.ensures.room c.fixtures.ensures.value c.in-Ok.ensures.answer c.in-Ok-place_all.ensures.answer _ _
