@@ -3,6 +3,7 @@ use lux_io::{MemShelf, MemSink, Name};
 use lux_top::{Outcome, run, solve};
 use std::alloc::Global;
 use std::test::Fail;
+use std::thread::Threads;
 
 /// A file of a shelf.
 pub fn file(alloc: Global, name: &str, text: &str) -> Result<(Name, Vec<u8>), Fail> {
@@ -11,13 +12,14 @@ pub fn file(alloc: Global, name: &str, text: &str) -> Result<(Name, Vec<u8>), Fa
 
 /// `run` over files in memory, called in one place for all tests: each place costs a proof.
 pub fn run_in_memory(
+    rt: &(impl Threads + Sync),
     alloc: Global,
     name: &Name,
     shelf: &mut MemShelf,
     out: &mut MemSink,
     notes: &mut MemSink,
 ) -> Outcome {
-    run(alloc, name, shelf, out, notes)
+    run(rt, alloc, name, shelf, out, notes)
 }
 
 /// `solve` likewise.

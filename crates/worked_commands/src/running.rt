@@ -30,7 +30,7 @@ fn a_read_that_fails_names_its_file(rt: HostRuntime) -> Result<(), Fail> {
         let mut shelf = shelf(alloc, CUBE, &[failing])?;
         let mut out = MemSink::new(alloc, 1_000, &[])?;
         let mut notes = MemSink::new(alloc, 1_000, &[])?;
-        let outcome = run_in_memory(alloc, &cube, &mut shelf, &mut out, &mut notes);
+        let outcome = run_in_memory(&rt, alloc, &cube, &mut shelf, &mut out, &mut notes);
         match outcome.answer {
             Answer::Read { name } => assert_eq!(rt; name.as_str(), expected),
             _ => return Err(Fail::from("another answer")),
@@ -50,7 +50,7 @@ fn a_file_that_three_luminaires_name_is_read_once(rt: HostRuntime) -> Result<(),
     let mut shelf = shelf(alloc, &project, &[2])?;
     let mut out = MemSink::new(alloc, 1_000, &[])?;
     let mut notes = MemSink::new(alloc, 0, &[])?;
-    let outcome = run_in_memory(alloc, &cube, &mut shelf, &mut out, &mut notes);
+    let outcome = run_in_memory(&rt, alloc, &cube, &mut shelf, &mut out, &mut notes);
     assert!(rt; matches!(outcome.answer, Answer::Done { .. }));
     assert_eq!(rt; out.written(), CUBE_LEDGER.as_bytes());
     assert_eq!(rt; shelf.faults(), 0);

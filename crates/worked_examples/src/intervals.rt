@@ -21,3 +21,15 @@ fn two_patches_have_their_intervals(rt: HostRuntime) -> Result<(), Fail> {
     );
     Ok(())
 }
+
+#[test]
+fn a_patch_that_gets_nothing_has_no_width(rt: HostRuntime) -> Result<(), Fail> {
+    let alloc = rt.alloc();
+    let system = System::new(alloc, &[500, 500], &[0, 500_000_000, 0, 0], 10)?;
+    let flux = [20, 0];
+    prove_eq!(flux.len(), system.len());
+    let ledger = serial(alloc, &system, &flux)?;
+    assert_eq!(rt; interval(&system, &ledger, 0), (20, 20));
+    assert_eq!(rt; interval(&system, &ledger, 1), (5, 7));
+    Ok(())
+}

@@ -38,6 +38,34 @@ fn a_settled_ledger_stays(rt: HostRuntime) -> Result<(), Fail> {
     Ok(())
 }
 
+// A ledger of three accounts, whose fractions at patch 1 are two whole nanolumens together.
+fn three_accounts(alloc: Global) -> Result<Ledger, AllocError>
+    ensures { IfOk result (λ ledger. ledger ≡ record { direct = 20 ∷ 2 ∷ []; taken = 0 ∷ 0 ∷ []; residual = 20 ∷ 0 ∷ []; err = 0 ∷ 2000000000000 ∷ []; parts = 3; wins = 0 }) }
+{
+    Ok(Ledger {
+        direct: Amounts::from_vec([20, 2].to_vec(alloc)?),
+        taken: Amounts::from_vec([0, 0].to_vec(alloc)?),
+        residual: Amounts::from_vec([20, 0].to_vec(alloc)?),
+        err: Amounts::from_vec([0, 2_000_000_000_000].to_vec(alloc)?),
+        parts: 3,
+        wins: 0,
+    })
+}
+
+#[test]
+fn the_first_take_carries_whole_nanolumens_of_fractions(rt: HostRuntime) -> Result<(), Fail> {
+    let alloc = rt.alloc();
+    let system = System::new(alloc, &[500, 500], &[0, 500_000_000, 0, 0], 10)?;
+    let mut settler = Settler::new(alloc, system.len())?;
+    let mut ledger = three_accounts(alloc)?;
+    settle(&system, &mut settler, &mut ledger);
+    assert_eq!(rt; ledger.taken.as_slice(), [20, 0].as_slice());
+    assert_eq!(rt; ledger.residual.as_slice(), [0, 7].as_slice());
+    assert_eq!(rt; ledger.err.as_slice(), [0, 0].as_slice());
+    assert_eq!(rt; (ledger.parts, ledger.wins), (3, 1));
+    Ok(())
+}
+
 // A list of one number.
 fn one(alloc: Global, value: u64) -> Result<Amounts, AllocError>
     ensures { IfOk result (λ list. list ≡ value ∷ []) }

@@ -1,5 +1,5 @@
 // Flux systems and system texts.
-use flux_system::{LimitFault, System, SystemFault};
+use flux_system::{Entry, LimitFault, System, SystemFault};
 use std::test::Fail;
 use system_file::{SysFault, read_system};
 use worked_texts::{MOST_BYTES, TWO_PATCHES, first_lines, with_line};
@@ -140,6 +140,75 @@ fn a_system_has_its_numbers(rt: HostRuntime) -> Result<(), Fail> {
     assert_eq!(rt; system.keep(1), 750_000_000_000);
     assert_eq!(rt; system.least_keep(), 750_000_000_000);
     assert_eq!(rt; system.takes_bound(&[1_000, 0]), Ok(133));
+    Ok(())
+}
+
+// Shares with the entries of each row and of each column, as patches and shares.
+type Listed = (
+    &'static [u32],
+    &'static [&'static [(u32, u32)]],
+    &'static [&'static [(u32, u32)]],
+);
+
+const LISTED: [Listed; 4] = [
+    (
+        &[0, 500_000_000, 500_000_000, 0],
+        &[&[(1, 500_000_000)], &[(0, 500_000_000)]],
+        &[&[(1, 500_000_000)], &[(0, 500_000_000)]],
+    ),
+    (
+        &[0, 500_000_000, 0, 0],
+        &[&[(1, 500_000_000)], &[]],
+        &[&[], &[(0, 500_000_000)]],
+    ),
+    (
+        &[1, 2, 3, 4, 5, 6, 7, 8, 999_999_984],
+        &[
+            &[(0, 1), (1, 2), (2, 3)],
+            &[(0, 4), (1, 5), (2, 6)],
+            &[(0, 7), (1, 8), (2, 999_999_984)],
+        ],
+        &[
+            &[(0, 1), (1, 4), (2, 7)],
+            &[(0, 2), (1, 5), (2, 8)],
+            &[(0, 3), (1, 6), (2, 999_999_984)],
+        ],
+    ),
+    (
+        &[0, 0, 9, 0, 0, 0, 0, 0, 4, 0, 3, 1, 2, 0, 0, 6],
+        &[&[(2, 9)], &[], &[(0, 4), (2, 3), (3, 1)], &[(0, 2), (3, 6)]],
+        &[&[(2, 4), (3, 2)], &[], &[(0, 9), (2, 3)], &[(2, 1), (3, 6)]],
+    ),
+];
+
+// Whether some entries have these patches and shares.
+fn are(entries: &[Entry], expected: Option<&&[(u32, u32)]>) -> bool {
+    let Some(expected) = expected else {
+        return false;
+    };
+    entries.len() == expected.len()
+        && entries.iter().zip(expected.iter()).all(|(entry, (patch, share))| entry.patch == *patch
+            && entry.share == *share)
+}
+
+#[test]
+fn rows_and_columns_have_the_shares_that_are_not_0(rt: HostRuntime) -> Result<(), Fail> {
+    let alloc = rt.alloc();
+    for (shares, rows, columns) in LISTED {
+        let reflectances = vec![in alloc; 1; rows.len()]?;
+        let system = System::new(alloc, &reflectances, shares, 10)?;
+        for i in 0..system.len() {
+            assert!(rt; are(system.row(i), rows.get(i)));
+            assert!(rt; are(system.column(i), columns.get(i)));
+            for j in 0..system.len() {
+                let share = shares.get(i * system.len() + j);
+                assert_eq!(rt;
+                    Some(system.coef(i, j)),
+                    share.map(|share| u64::from(*share))
+                );
+            }
+        }
+    }
     Ok(())
 }
 

@@ -355,7 +355,7 @@ fn four_panels_light_an_office(rt: HostRuntime) -> Result<(), Fail> {
 fn each_face_of_a_cube_passes_on_the_same(rt: HostRuntime) -> Result<(), Fail> {
     let alloc = rt.alloc();
     let cube = Room::new(alloc, CUBE)?;
-    let all = all_rows(alloc, &cube)?;
+    let all = all_rows(&rt, alloc, &cube)?;
     assert_eq!(rt; all.len(), 36);
     for (place, share) in all.iter().enumerate() {
         let expected = if place % 7 == 0 { 0 } else { 199_999_999 };
@@ -411,8 +411,57 @@ fn an_office_passes_on_what_another_program_finds(rt: HostRuntime) -> Result<(),
     for (number, expected) in OFFICE_SHARES {
         assert_eq!(rt; row.get(number), Some(&expected));
     }
-    let all = all_rows(alloc, &office)?;
+    let all = all_rows(&rt, alloc, &office)?;
     assert_eq!(rt; all.len(), 432 * 432);
     assert_eq!(rt; &all[43_200..43_632], row.as_slice());
+    Ok(())
+}
+
+// Widths, depths and heights, and how many parts each of them is cut into.
+const SHARING_ROOMS: [[u32; 6]; 8] = [
+    // Parts of one length, of which the weights come again and again.
+    [6_000, 4_000, 3_000, 12, 8, 6],
+    // Parts that differ.
+    [24_010, 18_030, 7_150, 16, 16, 8],
+    [1_001, 999, 500, 3, 2, 1],
+    // A patch for each surface.
+    [1_000, 1_000, 1_000, 1, 1, 1],
+    // Distances and areas whose product passes 64 bits.
+    [100_000, 100_000, 100_000, 1, 1, 1],
+    // Squared distances that pass 32 bits.
+    [99_990, 88_880, 77_770, 16, 16, 8],
+    // Weights whose sum passes 2^61.
+    [100_000, 100_000, 500, 2, 2, 1],
+    [500, 500, 100_000, 4, 4, 60],
+];
+
+#[test]
+fn all_rows_are_those_of_the_formulas(rt: HostRuntime) -> Result<(), Fail> {
+    let alloc = rt.alloc();
+    for [width, depth, height, nx, ny, nz] in SHARING_ROOMS {
+        let lengths = RoomSpec {
+            width,
+            depth,
+            height,
+            ..CUBE
+        };
+        let room = Room::new(
+            alloc,
+            RoomSpec {
+                nx,
+                ny,
+                nz,
+                ..lengths
+            },
+        )?;
+        let all = all_rows(&rt, alloc, &room)?;
+        let mut row = vec![in alloc; 0; room.len()]?;
+        for (i, made) in all.chunks(room.len()).enumerate() {
+            assert!(rt; i < room.len());
+            assert_eq!(rt; row.len(), room.len());
+            shares_row(&room, i, &mut row);
+            assert_eq!(rt; made, row.as_slice());
+        }
+    }
     Ok(())
 }
