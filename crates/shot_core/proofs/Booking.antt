@@ -3,6 +3,7 @@ use Rattle.std.proofs.Common.{◌≡◌, ◌≢◌, ℕ, ◌+◌, ◌*◌, ◌/�
 use Rattle.std.proofs.lemmas.Bool.{cond-true, cond-false, eq-eqb, ne_eqb}
 use Rattle.std.proofs.lemmas.List.{at_drop_more, at_drop_all}
 use Rattle.std.proofs.lemmas.List.Sums.{sum_by-cons}
+use Rattle.std.proofs.lemmas.Nat.{mul-le}
 use mathlib.Core.Logic.{dite}
 use native.Mathlib.Decide.{ℕ_discrete}
 use Rattle.flux_system.specs.declared.entries.Entry.{Entry}
@@ -85,6 +86,19 @@ whole_part a b r x same small = omega arith
 
 pub rest_part : (a b r x : ℕ) → scale * a + b ≡ scale * r + x → b < scale → b ≡ x % scale
 rest_part a b r x same small = omega arith
+
+-- less of what is to be passed on is left, once a part of it is
+pub part_more : (amount fraction part least less more new_amount new_fraction : ℕ) → more ≡ less + least → new_amount ≡ amount + (fraction + least * part) / scale → new_fraction ≡ (fraction + least * part) % scale
+    → scale * new_amount + (new_fraction + less * part) ≡ scale * amount + (fraction + more * part)
+part_more amount fraction part least less more new_amount new_fraction more_is amount_is fraction_is = let product = ap (λ (x : ℕ). x * part) more_is in omega arith
+
+-- a part of what fits does
+pub part_fits : (amount fraction part least more total : ℕ) → least ≤ more → scale * amount + (fraction + more * part) ≡ total → total < scale * 18446744073709551616 → scale * amount + (fraction + least * part) < scale * 18446744073709551616
+part_fits amount fraction part least more total few is fits = let product = mul-le least part more part few (omega arith) in omega arith
+
+-- parts fit where their whole nanolumens do
+pub total_fits : (amount x : ℕ) → amount + x / scale < 18446744073709551616 → scale * amount + x < scale * 18446744073709551616
+total_fits amount x fits = omega arith
 
 -- one fraction more that is below a nanolumen
 pub small_after : (fractions : List ℕ) (target rest : ℕ) → rest < scale → AreSmall fractions → AreSmall (set fractions target rest)

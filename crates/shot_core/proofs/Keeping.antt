@@ -1,8 +1,6 @@
 -- A shot keeps a ledger balanced and paid, and lowers what is unshot.
-use Rattle.std.proofs.Common.{◌≡◌, ◌≢◌, ℕ, ◌+◌, ◌*◌, ◌/◌, ◌%◌, ◌<◌, ◌≤◌, List, get_or, set, sym, ap, subst, ◌∙◌, arith, length-set, get_or-set_same, get_or-set_other}
+use Rattle.std.proofs.Common.{◌≡◌, ◌≢◌, ℕ, ◌+◌, ◌*◌, ◌/◌, ◌%◌, ◌<◌, ◌≤◌, List, length, get_or, set, refl, sym, ap, subst, ◌∙◌, arith, length-set, get_or-set_other}
 use Rattle.std.specs.List.{sum}
-use mathlib.Core.Logic.{dite}
-use native.Mathlib.Decide.{ℕ_discrete}
 use Rattle.std.proofs.lemmas.Nat.{mul-le}
 use Rattle.flux_system.specs.Sums.{sum_below}
 use Rattle.flux_system.specs.System.{FluxSystem, scale, patches, share, coefficient, passed_part, keep}
@@ -11,11 +9,12 @@ use Rattle.flux_system.proofs.Sums.{sum-same, sum-add, sum-scale, sum-change, su
 use Rattle.flux_system.proofs.Dense.{range-same}
 use Rattle.flux_system.proofs.Keeping.{keep-above}
 use Rattle.flux_ledger.specs.declared.ledger.Ledger.{Ledger}
-use Rattle.flux_ledger.specs.Balance.{IsBalanced, IsPaid, passed_to}
+use Rattle.flux_ledger.specs.Balance.{IsBalanced, IsPaid}
 use Rattle.flux_ledger.proofs.Bounds.{Balances, balances, balanced, taken_bound, residual_bound, wins_bound}
 use Rattle.shot_core.specs.Shots.{shot, parts_after, amounts_after, fractions_after}
 use Rattle.flux_ledger.specs.Balance.{unshot}
 use Rattle.shot_core.proofs.Lists.{list-at, list-length, set-zero}
+use Rattle.shot_core.proofs.Taking.{taken_here, taken_moved, taken_sum, passed_more}
 
 module _ (s : FluxSystem) (l : Ledger) (i : ℕ) (inside : i < patches s) (b : Balances s l) where
   -- what the shot takes
@@ -37,26 +36,8 @@ module _ (s : FluxSystem) (l : Ledger) (i : ℕ) (inside : i < patches s) (b : B
       let nothing : taking * (get_or s.reflectance i 0 * share s i j) ≡ 0 = ap (λ (x : ℕ). taking * (get_or s.reflectance i 0 * x)) none ∙ omega arith in
       omega arith
 
-  taken_here : get_or (shot s l i).taken i 0 ≡ get_or l.taken i 0 + taking
-  taken_here = let long = b.lengths.of_taken in get_or-set_same l.taken i (get_or l.taken i 0 + taking) 0 (omega arith)
-
-  taken_elsewhere : (k : ℕ) → k ≢ i → get_or (shot s l i).taken k 0 ≡ get_or l.taken k 0
-  taken_elsewhere k ne = get_or-set_other l.taken i k (get_or l.taken i 0 + taking) 0 ne
-
-  -- taken and left together stay, before anything is passed on
-  moved : (j : ℕ) → get_or (shot s l i).taken j 0 + get_or (set l.residual i 0) j 0 ≡ get_or l.taken j 0 + get_or l.residual j 0
-  moved j =
-      dite (ℕ_discrete j i)
-      (λ is. subst (λ (k : ℕ). get_or (shot s l i).taken k 0 + get_or (set l.residual i 0) k 0 ≡ get_or l.taken k 0 + get_or l.residual k 0) (sym is)
-      (let none = set-zero l.residual i in let here = taken_here in omega arith))
-      (λ ne. let left = get_or-set_other l.residual i j 0 0 ne in let there = taken_elsewhere j ne in omega arith)
-
-  passed_after : (j : ℕ) → passed_to s (shot s l i).taken j ≡ passed_to s l.taken j + taking * coefficient s i j
-  passed_after j =
-      let c : ℕ → ℕ = λ k. coefficient s k j in
-      let change = sum-change (patches s) (λ k. get_or l.taken k 0 * c k) (λ k. get_or (shot s l i).taken k 0 * c k) i inside (λ k ne. ap (λ (y : ℕ). y * c k) (taken_elsewhere k ne)) in
-      let here : get_or (shot s l i).taken i 0 * c i ≡ (get_or l.taken i 0 + taking) * c i = ap (λ (y : ℕ). y * c i) taken_here in
-      omega arith
+  taken_fits_in : i < length l.taken
+  taken_fits_in = let long = b.lengths.of_taken in omega arith
 
   pub shot_balances : Balances s (shot s l i)
   shot_balances = record {
@@ -70,8 +51,8 @@ module _ (s : FluxSystem) (l : Ledger) (i : ℕ) (inside : i < patches s) (b : B
         let old = b.balance j h in
         let left = residual_after j h in
         let rest = err_after j h in
-        let both = moved j in
-        let on = passed_after j in
+        let both = taken_moved l.taken i taking taken_fits_in l.residual refl j in
+        let on = passed_more l.taken i taking taken_fits_in s inside j in
         omega arith;
     fractions = λ j h.
         let rest = err_after j h in
@@ -82,8 +63,7 @@ module _ (s : FluxSystem) (l : Ledger) (i : ℕ) (inside : i < patches s) (b : B
 
   pub shot_paid : s.threshold ≤ taking → IsPaid s l → IsPaid s (shot s l i)
   shot_paid enough paid =
-      let change = sum-change (patches s) (λ k. get_or l.taken k 0) (λ k. get_or (shot s l i).taken k 0) i inside taken_elsewhere in
-      let here = taken_here in
+      let change = taken_sum l.taken i taking taken_fits_in s inside in
       let before = sum-places l.taken ∙ ap (λ (n : ℕ). sum_below n (λ k. get_or l.taken k 0)) b.lengths.of_taken in
       let after = sum-places (shot s l i).taken ∙ ap (λ (n : ℕ). sum_below n (λ k. get_or (shot s l i).taken k 0)) shot_balances.lengths.of_taken in
       omega arith
@@ -106,13 +86,13 @@ module _ (s : FluxSystem) (l : Ledger) (i : ℕ) (inside : i < patches s) (b : B
 
 -- the same of a balanced and paid ledger, and what fits in it
 module _ (s : FluxSystem) (valid : IsSystem s) (l : Ledger) (b : IsBalanced s l) (paid : IsPaid s l) (limit : sum l.direct ≤ 10000000000000000) (i : ℕ) (inside : i < patches s) (enough : s.threshold ≤ get_or l.residual i 0) where
-  pub shot_stays_paid : IsPaid s (shot s l i)
+  shot_stays_paid : IsPaid s (shot s l i)
   shot_stays_paid = shot_paid s l i inside (balances s l b) enough paid
 
-  pub shot_stays_balanced : IsBalanced s (shot s l i)
+  shot_stays_balanced : IsBalanced s (shot s l i)
   shot_stays_balanced = balanced s valid (shot s l i) (shot_balances s l i inside (balances s l b)) shot_stays_paid
 
-  pub unshot_falls : unshot s (shot s l i) < unshot s l
+  unshot_falls : unshot s (shot s l i) < unshot s l
   unshot_falls =
       let after = unshot_after s l i inside (balances s l b) valid in
       let positive = valid.positive in
@@ -128,7 +108,7 @@ module _ (s : FluxSystem) (valid : IsSystem s) (l : Ledger) (b : IsBalanced s l)
 
   pub taken_fits : get_or l.taken i 0 + get_or l.residual i 0 ≤ 200000000000000000
   taken_fits =
-      let here = taken_here s l i inside (balances s l b) in
+      let here = taken_here l.taken i (get_or l.residual i 0) (taken_fits_in s l i inside (balances s l b)) in
       let bound = taken_bound s valid (shot s l i) (balances s (shot s l i) shot_stays_balanced) limit i inside in
       omega arith
 
@@ -136,31 +116,38 @@ module _ (s : FluxSystem) (valid : IsSystem s) (l : Ledger) (b : IsBalanced s l)
   wins_fit = wins_bound s valid (shot s l i) shot_stays_balanced limit
 
   -- once the flux is taken, what is left and what is passed on fits
-  module _ (left err : List ℕ) (t : ℕ) (left_is : left ≡ set l.residual i 0) (err_is : err ≡ l.err) (t_is : t ≡ get_or l.residual i 0) where
-    pub parts_fit : (j : ℕ) → j < patches s → scale * get_or left j 0 + parts_after s i t err j < scale * 18446744073709551616
-    parts_fit j h =
-        let after = residual_after s l i inside (balances s l b) j h in
-        let fits = residual_fits j h in
-        let same : scale * get_or left j 0 + parts_after s i t err j ≡ scale * get_or (set l.residual i 0) j 0 + parts_after s i (get_or l.residual i 0) l.err j = λ k. scale * get_or (left_is k) j 0 + parts_after s i (t_is k) (err_is k) j in
-        omega arith
+  pub parts_fit : (left : List ℕ) (t : ℕ) → left ≡ set l.residual i 0 → t ≡ get_or l.residual i 0 → (j : ℕ) → j < patches s → scale * get_or left j 0 + parts_after s i t l.err j < scale * 18446744073709551616
+  parts_fit left t left_is t_is j h =
+      let after = residual_after s l i inside (balances s l b) j h in
+      let fits = residual_fits j h in
+      let same : scale * get_or left j 0 + parts_after s i t l.err j ≡ scale * get_or (set l.residual i 0) j 0 + parts_after s i (get_or l.residual i 0) l.err j = λ k. scale * get_or (left_is k) j 0 + parts_after s i (t_is k) l.err j in
+      omega arith
 
-    -- and so it does with whole nanolumens of the fractions moved
-    pub carried_fit : (carried rest : List ℕ) (j : ℕ) → scale * get_or carried j 0 + get_or rest j 0 ≡ scale * get_or left j 0 + get_or err j 0 → j < patches s → scale * get_or carried j 0 + parts_after s i t rest j < scale * 18446744073709551616
-    carried_fit carried rest j same h = let fits = parts_fit j h in omega arith
+-- a ledger that a shot left, where some patch has flux to shoot
+module _ (s : FluxSystem) (valid : IsSystem s) (l : Ledger) (b : IsBalanced s l) (paid : IsPaid s l) (limit : sum l.direct ≤ 10000000000000000) (i flux : ℕ) (is : flux ≡ get_or l.residual i 0) (listed : i < length l.residual) (enough : s.threshold ≤ flux) (after : Ledger) (shot_is : after ≡ shot s l i) where
+  in_system : i < patches s
+  in_system = let long = b.lengths.of_residual in omega arith
 
-    pub carry_fits : (j : ℕ) → j < patches s → scale * get_or left j 0 + get_or err j 0 < scale * 18446744073709551616
-    carry_fits j h = let fits = parts_fit j h in omega arith
+  pub after_balanced : IsBalanced s after
+  after_balanced = subst (λ (x : Ledger). IsBalanced s x) (sym shot_is) (shot_stays_balanced s valid l b paid limit i in_system (omega arith))
 
--- whole nanolumens of the fractions that move to the residuals don't change what a shot leaves
-module _ (s : FluxSystem) (i t : ℕ) (carried rest left err : List ℕ) (same : (j : ℕ) → j < patches s → scale * get_or carried j 0 + get_or rest j 0 ≡ scale * get_or left j 0 + get_or err j 0) where
-  carried_whole : (a b r e x : ℕ) → scale * a + b ≡ scale * r + e → a + (b + x) / scale ≡ r + (e + x) / scale
-  carried_whole a b r e x is = omega arith
+  pub after_paid : IsPaid s after
+  after_paid = subst (λ (x : Ledger). IsPaid s x) (sym shot_is) (shot_stays_paid s valid l b paid limit i in_system (omega arith))
 
-  carried_rest : (a b r e x : ℕ) → scale * a + b ≡ scale * r + e → (b + x) % scale ≡ (e + x) % scale
-  carried_rest a b r e x is = omega arith
+  pub after_falls : unshot s after < unshot s l
+  after_falls = subst (λ (x : Ledger). unshot s x < unshot s l) (sym shot_is) (unshot_falls s valid l b paid limit i in_system (omega arith))
 
-  pub carried_amounts : amounts_after s i t carried rest ≡ amounts_after s i t left err
-  carried_amounts = range-same (patches s) _ _ (λ j h. carried_whole (get_or carried j 0) (get_or rest j 0) (get_or left j 0) (get_or err j 0) (t * coefficient s i j) (same j h))
+-- a number of parts that stays has the same whole nanolumens, however many of them are in the fraction
+alike_whole : (a x r y : ℕ) → scale * a + x ≡ scale * r + y → a + x / scale ≡ r + y / scale
+alike_whole a x r y is = omega arith
 
-  pub carried_fractions : fractions_after s i t rest ≡ fractions_after s i t err
-  carried_fractions = range-same (patches s) _ _ (λ j h. carried_rest (get_or carried j 0) (get_or rest j 0) (get_or left j 0) (get_or err j 0) (t * coefficient s i j) (same j h))
+alike_rest : (a x r y : ℕ) → scale * a + x ≡ scale * r + y → x % scale ≡ y % scale
+alike_rest a x r y is = omega arith
+
+-- where each patch comes to as many parts, what a shot leaves is the same
+module _ (s : FluxSystem) (i t u : ℕ) (amounts rest left err : List ℕ) (same : (j : ℕ) → j < patches s → scale * get_or amounts j 0 + parts_after s i t rest j ≡ scale * get_or left j 0 + parts_after s i u err j) where
+  pub alike_amounts : amounts_after s i t amounts rest ≡ amounts_after s i u left err
+  alike_amounts = range-same (patches s) _ _ (λ j h. alike_whole (get_or amounts j 0) (parts_after s i t rest j) (get_or left j 0) (parts_after s i u err j) (same j h))
+
+  pub alike_fractions : fractions_after s i t rest ≡ fractions_after s i u err
+  alike_fractions = range-same (patches s) _ _ (λ j h. alike_rest (get_or amounts j 0) (parts_after s i t rest j) (get_or left j 0) (parts_after s i u err j) (same j h))

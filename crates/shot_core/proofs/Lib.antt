@@ -1,5 +1,16 @@
 pub mod Lists
 pub mod Booking
+pub mod Taking
 pub mod Keeping
 pub mod Ending
 pub mod Untouched
+pub mod Totals
+pub mod Pooled
+pub mod RoleCounts
+pub mod TakesGives
+pub mod HiresRetires
+pub mod Orders
+pub mod Memory
+pub mod Fitting
+pub mod Moving
+pub mod Opening

@@ -1,3 +1,10 @@
 pub mod Shots
 pub mod Settling
+pub mod Hands
+pub mod Views
+pub mod Accounts
+pub mod Conserved
+pub mod World
+pub mod AccountViews
 pub mod Shapes
+pub mod Layouts

@@ -1,4 +1,4 @@
--- A shot of a ledger: the whole residual of a patch is taken, and what the patch passes on goes to all patches
+-- A shot: the whole residual of a patch is taken, and what the patch passes on goes to all patches
 -- (a step of progressive refinement, Cohen, Chen, Wallace and Greenberg 1988; that fractions are carried is this project's own rule).
 use Rattle.std.specs.Prelude.{ℕ, ◌+◌, ◌*◌, ◌/◌, ◌%◌, List, map, slice_index, slice_set}
 use Rattle.std.specs.List.{range_with_len}
@@ -13,11 +13,7 @@ at_each_patch s f = map f (range_with_len 0 (patches s))
 abbrev pub parts_after : FluxSystem → ℕ → ℕ → List ℕ → ℕ → ℕ
 parts_after s i t err j = slice_index err j + t * coefficient s i j
 
--- the whole nanolumens of that, for each patch
-abbrev pub amounts_passed : FluxSystem → ℕ → ℕ → List ℕ → List ℕ
-amounts_passed s i t err = at_each_patch s (λ j. parts_after s i t err j / scale)
-
--- they go to the amounts
+-- the whole nanolumens of that go to the amounts
 abbrev pub amounts_after : FluxSystem → ℕ → ℕ → List ℕ → List ℕ → List ℕ
 amounts_after s i t amounts err = at_each_patch s (λ j. slice_index amounts j + parts_after s i t err j / scale)
 

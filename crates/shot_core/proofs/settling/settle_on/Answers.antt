@@ -3,13 +3,12 @@ use Rattle.std.specs.List.{sum}
 use Rattle.picker.specs.Greatest.{greatest_place}
 use Rattle.flux_system.specs.System.{patches}
 use Rattle.flux_ledger.specs.declared.ledger.Ledger.{Ledger}
-use Rattle.flux_ledger.specs.Balance.{unshot, IsBalanced, IsPaid}
 use Rattle.flux_ledger.proofs.Bounds.{balances}
 use Rattle.shot_core.specs.Shots.{shot}
 use Rattle.shot_core.specs.Settling.{brightest_patch, settled_ledger}
 use Rattle.shot_core.proofs.Lists.{list-length}
 use Rattle.shot_core.proofs.Booking.{row-share}
-use Rattle.shot_core.proofs.Keeping.{shot_stays_paid, shot_stays_balanced, unshot_falls, residual_stays}
+use Rattle.shot_core.proofs.Keeping.{residual_stays, after_balanced, after_paid, after_falls}
 use Rattle.shot_core.proofs.Ending.{settling_goes_on, settling_ends}
 use Rattle.shot_core.proofs.settling.settle_on.Goals as goal
 
@@ -51,16 +50,8 @@ follow-requires-clause-others c =
 pub loop-flux-smaller : goal.loop-flux-smaller
 loop-flux-smaller c =
     let i = c.loop-flux.invariant in
-    let s = c.args.system.now in
-    let l = c.loop-flux.ledger in
     let flux = ap sum i.direct in
-    let limit : sum l.direct ≤ 10000000000000000 = omega arith in
-    let long = i.balanced.lengths.of_residual in
-    let is = i.is in
-    let at = i.inside in
-    let inside : c.loop-flux.patch < patches s = omega arith in
-    let enough : s.threshold ≤ get_or l.residual c.loop-flux.patch 0 = omega arith in
-    subst (λ (x : Ledger). unshot s x < unshot s l) (sym c.shoot.ensures.shot) (unshot_falls s c.len-2.ensures.system l i.balanced i.paid limit c.loop-flux.patch inside enough)
+    after_falls c.args.system.now c.len-2.ensures.system c.loop-flux.ledger i.balanced i.paid (omega arith) c.loop-flux.patch c.loop-flux.flux i.is i.inside (omega arith) _ c.shoot.ensures.shot
 
 pub loop-flux-preserved : goal.loop-flux-preserved
 loop-flux-preserved c =
@@ -70,18 +61,14 @@ loop-flux-preserved c =
     let l = c.loop-flux.ledger in
     let patch : ℕ = c.loop-flux.patch in
     let flux = ap sum i.direct in
-    let limit : sum l.direct ≤ 10000000000000000 = omega arith in
-    let long = i.balanced.lengths.of_residual in
     let is = i.is in
-    let at = i.inside in
-    let inside : patch < patches s = omega arith in
     let enough : s.threshold ≤ get_or l.residual patch 0 = omega arith in
     let reaching : s.threshold ≤ get_or l.residual (brightest_patch l.residual) 0 = subst (λ (k : ℕ). s.threshold ≤ get_or l.residual k 0) i.first enough in
     let shot_is = c.shoot.ensures.shot in
     let follows = c.follow.ensures ∙ c.as_slice-in-loop-flux.ensures in
     record {
-      balanced = subst (λ (x : Ledger). IsBalanced s x) (sym shot_is) (shot_stays_balanced s valid l i.balanced i.paid limit patch inside enough);
-      paid = subst (λ (x : Ledger). IsPaid s x) (sym shot_is) (shot_stays_paid s valid l i.balanced i.paid limit patch inside enough);
+      balanced = after_balanced s valid l i.balanced i.paid (omega arith) patch c.loop-flux.flux is i.inside (omega arith) _ shot_is;
+      paid = after_paid s valid l i.balanced i.paid (omega arith) patch c.loop-flux.flux is i.inside (omega arith) _ shot_is;
       small = c.shoot.ensures.small;
       alike = ap (settled_ledger s) shot_is ∙ (ap (λ (k : ℕ). settled_ledger s (shot s l k)) i.first ∙ (settling_goes_on s valid l (balances s l i.balanced) reaching ∙ i.alike));
       direct = ap (λ (x : Ledger). x.direct) shot_is ∙ i.direct;
