@@ -1,4 +1,4 @@
-//! Worked examples of webs, fakes, words, tournaments, ledgers, intervals, the exact solution and projects.
+//! Worked examples of webs, fakes, words, tournaments, ledgers, worlds, intervals, the exact solution and projects.
 //!
 //! This crate has tests alone, as `worked_readers`, `worked_rooms` and `worked_commands` have theirs. They stand above all
 //! others, so that none of these is proved a second time for its tests; together with the cases of `examples/` they show that
@@ -22,3 +22,5 @@ mod projects;
 mod tournaments;
 #[cfg(test)]
 mod words;
+#[cfg(test)]
+mod worlds;
