@@ -1,0 +1,144 @@
+// The figures of flux systems, as they stand before there is a system.
+use flux_system::{System, SystemFault};
+use std::alloc::{AllocError, Global};
+
+// The reflectances, the shares, the threshold and the direct flux.
+#[derive(Drop)]
+pub(crate) struct Figures {
+    pub(crate) reflectance: Vec<u32>,
+    pub(crate) shares: Vec<u32>,
+    pub(crate) threshold: u64,
+    pub(crate) direct: Vec<u64>,
+}
+
+impl Figures {
+    // Two patches that pass on a quarter of what they take, one to the other.
+    pub(crate) fn of_two_patches(alloc: Global, direct: &[u64]) -> Result<Figures, AllocError> {
+        Ok(Figures {
+            reflectance: Vec::from_slice(alloc, &[500, 500])?,
+            shares: Vec::from_slice(alloc, &[0, 500_000_000, 500_000_000, 0])?,
+            threshold: 10,
+            direct: Vec::from_slice(alloc, direct)?,
+        })
+    }
+
+    pub(crate) fn system(&self, alloc: Global) -> Result<System, SystemFault> {
+        System::new(
+            alloc,
+            self.reflectance.as_slice(),
+            self.shares.as_slice(),
+            self.threshold,
+        )
+    }
+}
+
+// Where the flux of a patch goes.
+#[derive(Clone, Copy, Debug)]
+enum Way {
+    // Nowhere.
+    Kept,
+    // Back to the patch itself.
+    Back,
+    // All of it to the first patch.
+    First,
+    // To each patch, also itself.
+    Everywhere,
+    // To every third patch.
+    Sparse,
+}
+
+// What makes a system: how many patches it has, where their flux goes, which reflectance none of them exceeds, the
+// threshold, and the direct flux of each patch that has some.
+#[derive(Clone, Copy, Debug)]
+struct Recipe {
+    patches: u32,
+    way: Way,
+    most_reflectance: u32,
+    threshold: u64,
+    flux: u64,
+}
+
+// How many systems there are.
+pub(crate) const SYSTEMS: u32 = 12;
+
+fn recipe_of(number: u32) -> Recipe {
+    let (patches, way, most_reflectance, threshold, flux) = match number {
+        0 => (1, Way::Kept, 950, 1, 10_000_000_000_000_000),
+        1 => (1, Way::Back, 950, 1, 10_000_000_000_000_000),
+        // All seats fight over one patch, which alone has flux.
+        2 => (6, Way::First, 950, 1, 1_000_000_000_000_000),
+        3 => (24, Way::Everywhere, 950, 1, 400_000_000_000_000),
+        4 => (2, Way::Everywhere, 950, 7, 4_999_999_999_999_999),
+        5 => (3, Way::Everywhere, 949, 1_000, 777_777_777_777),
+        6 => (5, Way::Sparse, 950, 12, 99_999_999_999_999),
+        7 => (8, Way::Everywhere, 600, 3, 1_234_567_890_123),
+        8 => (12, Way::Sparse, 950, 1, 50_000_000_000_001),
+        9 => (16, Way::Everywhere, 950, 1_000_000, 600_000_000_000_007),
+        10 => (20, Way::Everywhere, 30, 2, 31_415_926_535),
+        // A threshold that only a few words ever reach.
+        _ => (
+            9,
+            Way::Everywhere,
+            950,
+            300_000_000_000_000,
+            1_000_000_000_000_000,
+        ),
+    };
+    Recipe {
+        patches,
+        way,
+        most_reflectance,
+        threshold,
+        flux,
+    }
+}
+
+// Some number from 1 to 999.
+fn weight(number: u32, from: u32, to: u32) -> u32 {
+    let mixed = u64::from(number) * 53 + u64::from(from) * 137 + u64::from(to) * 101;
+    (mixed % 999) as u32 + 1
+}
+
+// No row of shares sums to 10^9: an even part of 999 millionths of it is the most that a patch gets.
+fn share(number: u32, recipe: &Recipe, from: u32, to: u32) -> u32 {
+    let whole = 999_999_999;
+    match recipe.way {
+        Way::Kept => 0,
+        Way::Back => { if from == to { whole } else { 0 } }
+        Way::First => { if to == 0 { whole } else { 0 } }
+        Way::Everywhere => even_part(recipe.patches).saturating_mul(weight(number, from, to)),
+        Way::Sparse => {
+            if weight(number, from, to) % 3 == 0 {
+                even_part(recipe.patches).saturating_mul(weight(number, from, to))
+            } else {
+                0
+            }
+        }
+    }
+}
+
+fn even_part(patches: u32) -> u32 {
+    1_000_000 / patches.max(1)
+}
+
+// A system that a number makes, from 0 on. None of them has a weight by chance: they are the same in each run.
+pub(crate) fn figures_of(alloc: Global, number: u32) -> Result<Figures, AllocError> {
+    let recipe = recipe_of(number);
+    let mut reflectance = Vec::new(alloc);
+    let mut shares = Vec::new(alloc);
+    let mut direct = Vec::new(alloc);
+    for from in 0..recipe.patches {
+        reflectance.push(recipe.most_reflectance.saturating_sub(from))?;
+        let has_none = matches!(recipe.way, Way::First) && from > 0;
+        direct.push(if has_none { 0 } else { recipe.flux })?;
+        for to in 0..recipe.patches {
+            shares.push(share(number, &recipe, from, to))?;
+        }
+    }
+    Ok(Figures {
+        reflectance,
+        shares,
+        threshold: recipe.threshold,
+        direct,
+    })
+}
