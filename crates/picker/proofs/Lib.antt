@@ -1,2 +1,3 @@
-pub mod Greatest
+pub mod Choices
+pub mod Maxima
 pub mod Nodes

@@ -6,7 +6,7 @@ use Rattle.std.proofs.lemmas.List.FromFn.{get_or-map-range_with_len, length-map-
 use Rattle.picker.specs.declared.contender.Contender.{Contender}
 use Rattle.picker.specs.Greatest.{greatest_value, greatest_place}
 use Rattle.picker.specs.Shapes.{beats, better, at_node, IsTree, leaf_values}
-use Rattle.picker.proofs.Greatest.{greatest_value-is, greatest_place-is}
+use Rattle.picker.proofs.Maxima.{greatest_value-is, greatest_place-is}
 
 -- one is no worse than the other
 pub record IsNoWorse (one other : Contender) : Type 0 where

@@ -1,2 +1,3 @@
 pub mod Greatest
+pub mod Picks
 pub mod Shapes

@@ -1,0 +1,64 @@
+// Rules that pick one of the places whose value reaches a threshold.
+ghost use Rattle.std.specs.Prelude.{◌≡◌, ◌<◌, ◌+◌, ◌++◌, IfSome, length};
+ghost use Rattle.picker.specs.Picks.{first_reaching, greatest_pick, sweep_pick, striped_pick, IsPick};
+
+/// The first place of the greatest value, where that value reaches the threshold. None where no value does, as for no
+/// values. The values and the threshold have one unit, as nanolumens.
+pub fn greatest(values: &[u64], threshold: u64) -> Option<usize>
+    ensures place { result ≡ greatest_pick values.now threshold }
+    ensures pick { IsPick values.now threshold result }
+{
+    let mut best = 0;
+    for (place, value) in values.iter().enumerate() {
+        if *value > values[best] {
+            best = place;
+        }
+    }
+    let value = *values.get(best)?;
+    (value >= threshold).then_some(best)
+}
+
+/// The first place whose value reaches the threshold, from place `offset` modulo the length on, round past the end to
+/// the places before it. None where no value does, as for no values. Any offset will do.
+pub fn sweep(offset: usize, values: &[u64], threshold: u64) -> Option<usize>
+    ensures place { result ≡ sweep_pick offset values.now threshold }
+    ensures pick { IsPick values.now threshold result }
+{
+    if values.is_empty() {
+        return None;
+    }
+    let start = offset % values.len();
+    let (before, after) = values.split_at(start);
+    let place = first_of_both(after, before, threshold)?;
+    Some((start + place) % values.len())
+}
+
+// The first place whose value reaches the threshold in two lists, one after the other.
+fn first_of_both(values: &[u64], others: &[u64], threshold: u64) -> Option<usize>
+    ensures place { result ≡ first_reaching (values.now ++ others.now) threshold }
+    ensures inside { IfSome result (λ place. place < length values.now + length others.now) }
+{
+    values
+        .iter()
+        .chain(others.iter())
+        .position(|value| *value >= threshold)
+}
+
+/// The first place that is `k` modulo `m` and whose value reaches the threshold, else the first place whose value
+/// reaches it. None where no value does, as for no values.
+pub fn striped(k: usize, m: usize, values: &[u64], threshold: u64) -> Option<usize>
+    requires { k < m }
+    ensures place { result ≡ striped_pick k m values.now threshold }
+    ensures pick { IsPick values.now threshold result }
+{
+    let mut other = None;
+    for (place, value) in values.iter().enumerate() {
+        if *value >= threshold {
+            if place % m == k {
+                return Some(place);
+            }
+            other = other.or(Some(place));
+        }
+    }
+    other
+}
