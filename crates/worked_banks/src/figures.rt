@@ -22,6 +22,21 @@ impl Figures {
         })
     }
 
+    // Nine patches: the first passes a twentieth of what it takes on to each of the next seven and a tenth to the last,
+    // which passes a quarter back.
+    pub(crate) fn of_nine_patches(alloc: Global) -> Result<Figures, AllocError> {
+        let mut shares = Vec::from_elem(alloc, 0, 81)?;
+        shares.as_mut_slice()[1..8].fill(100_000_000);
+        shares.as_mut_slice()[8] = 200_000_000;
+        shares.as_mut_slice()[72] = 500_000_000;
+        Ok(Figures {
+            reflectance: Vec::from_elem(alloc, 500, 9)?,
+            shares,
+            threshold: 2,
+            direct: Vec::from_slice(alloc, &[1_000, 0, 0, 0, 0, 0, 0, 0, 0])?,
+        })
+    }
+
     pub(crate) fn system(&self, alloc: Global) -> Result<System, SystemFault> {
         System::new(
             alloc,
@@ -32,23 +47,25 @@ impl Figures {
     }
 }
 
-// Where the flux of a patch goes.
+// Which patches get a share of a patch's flux.
 #[derive(Clone, Copy, Debug)]
 enum Way {
-    // Nowhere.
+    // None.
     Kept,
-    // Back to the patch itself.
+    // The patch itself.
     Back,
-    // All of it to the first patch.
+    // The first patch alone, also of its own flux.
     First,
-    // To each patch, also itself.
+    // The next patch, and of the last one the first.
+    Next,
+    // About every third.
+    Third,
+    // All, also the patch itself.
     Everywhere,
-    // To every third patch.
-    Sparse,
 }
 
-// What makes a system: how many patches it has, where their flux goes, which reflectance none of them exceeds, the
-// threshold, and the direct flux of each patch that has some.
+// What makes a system: how many patches it has, which of them get shares, the highest reflectance, the threshold, and
+// the direct flux of each patch that has some.
 #[derive(Clone, Copy, Debug)]
 struct Recipe {
     patches: u32,
@@ -69,13 +86,13 @@ fn recipe_of(number: u32) -> Recipe {
         2 => (6, Way::First, 950, 1, 1_000_000_000_000_000),
         3 => (24, Way::Everywhere, 950, 1, 400_000_000_000_000),
         4 => (2, Way::Everywhere, 950, 7, 4_999_999_999_999_999),
-        5 => (3, Way::Everywhere, 949, 1_000, 777_777_777_777),
-        6 => (5, Way::Sparse, 950, 12, 99_999_999_999_999),
+        5 => (3, Way::Next, 949, 1_000, 777_777_777_777),
+        6 => (5, Way::Third, 950, 12, 99_999_999_999_999),
         7 => (8, Way::Everywhere, 600, 3, 1_234_567_890_123),
-        8 => (12, Way::Sparse, 950, 1, 50_000_000_000_001),
-        9 => (16, Way::Everywhere, 950, 1_000_000, 600_000_000_000_007),
-        10 => (20, Way::Everywhere, 30, 2, 31_415_926_535),
-        // A threshold that only a few words ever reach.
+        8 => (12, Way::Next, 950, 1, 50_000_000_000_001),
+        9 => (16, Way::Third, 950, 1_000_000, 600_000_000_000_007),
+        10 => (40, Way::Everywhere, 30, 2, 31_415_926_535),
+        // A threshold that words reach a few times each.
         _ => (
             9,
             Way::Everywhere,
@@ -93,35 +110,32 @@ fn recipe_of(number: u32) -> Recipe {
     }
 }
 
-// Some number from 1 to 999.
+// Some number from 980 to 999.
 fn weight(number: u32, from: u32, to: u32) -> u32 {
     let mixed = u64::from(number) * 53 + u64::from(from) * 137 + u64::from(to) * 101;
-    (mixed % 999) as u32 + 1
+    (mixed % 20) as u32 + 980
 }
 
-// No row of shares sums to 10^9: an even part of 999 millionths of it is the most that a patch gets.
+// What one patch gets of the flux of another. A patch has no more receivers than are counted here, and each gets less
+// than an even part of 10^9.
 fn share(number: u32, recipe: &Recipe, from: u32, to: u32) -> u32 {
-    let whole = 999_999_999;
-    match recipe.way {
-        Way::Kept => 0,
-        Way::Back => { if from == to { whole } else { 0 } }
-        Way::First => { if to == 0 { whole } else { 0 } }
-        Way::Everywhere => even_part(recipe.patches).saturating_mul(weight(number, from, to)),
-        Way::Sparse => {
-            if weight(number, from, to) % 3 == 0 {
-                even_part(recipe.patches).saturating_mul(weight(number, from, to))
-            } else {
-                0
-            }
-        }
+    let n = recipe.patches.max(1);
+    let (gets, receivers) = match recipe.way {
+        Way::Kept => (false, 1),
+        Way::Back => (to == from, 1),
+        Way::First => (to == 0, 1),
+        Way::Next => (to == from.wrapping_add(1) % n, 1),
+        Way::Third => (from.wrapping_add(to) % 3 == 0, n / 3 + 1),
+        Way::Everywhere => (true, n),
+    };
+    if gets {
+        (1_000_000 / receivers.max(1)).saturating_mul(weight(number, from, to))
+    } else {
+        0
     }
 }
 
-fn even_part(patches: u32) -> u32 {
-    1_000_000 / patches.max(1)
-}
-
-// A system that a number makes, from 0 on. None of them has a weight by chance: they are the same in each run.
+// The figures of a system that a number makes, from 0 on: they are the same in each run.
 pub(crate) fn figures_of(alloc: Global, number: u32) -> Result<Figures, AllocError> {
     let recipe = recipe_of(number);
     let mut reflectance = Vec::new(alloc);

@@ -42,7 +42,8 @@ pub(crate) struct Closing {
     pub(crate) counts: Counts,
 }
 
-fn total_flux(direct: &[u64]) -> u128
+// All direct flux together.
+pub(crate) fn total_flux(direct: &[u64]) -> u128
     requires { length direct.now ≤ MOST_PATCHES }
     ensures { result ≡ sum direct.now }
 {

@@ -4,7 +4,7 @@ use crate::halls::Hall;
 use flux_accounts::{Given, Take};
 use std::test::Fail;
 
-// The first take passes on 12 and a half nanolumens; the second 3, and its word has none left.
+// The first take passes on 12 and a half nanolumens, of which the half stays behind as a fraction; the second passes on 3.
 #[test]
 fn one_after_another(rt: HostRuntime) -> Result<(), Fail> {
     let alloc = rt.alloc();

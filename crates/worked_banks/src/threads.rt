@@ -2,34 +2,58 @@
 use crate::equations::total;
 use crate::figures::{SYSTEMS, figures_of};
 use crate::halls::Hall;
+use flux_accounts::Bank;
+use flux_system::System;
 use std::test::Fail;
 
 // How often each seat tries to take.
-const TURNS: usize = 20_000;
+const TURNS: usize = 5_000;
 
-// What the threads win is another in each run. That nothing is lost and nothing comes twice is the same in all.
+// How many banks are opened over each system for each number of seats, so that threads meet in many ways.
+const BANKS: u32 = 4;
+
+// Who wins what is another in each run. That nothing is lost and nothing comes twice is the same in all, and so is that
+// the ledger has just the takes that the seats were told they won.
 #[test]
 fn threads_leave_a_ledger_that_balances(rt: HostRuntime) -> Result<(), Fail> {
     let alloc = rt.alloc();
     for number in 0..SYSTEMS {
         let figures = figures_of(alloc, number)?;
         for seats in [2, 8, 16] {
-            let mut hall = Hall::start(&rt, alloc, &figures, seats)?;
-            hall.work(&rt, TURNS);
-            let closing = hall.close(&rt, &figures)?;
-            let ledger = closing.ledger;
-            assert!(rt; ledger.wins > 0);
-            assert_eq!(rt;
-                closing.counts.wins,
-                ledger.wins,
-                "system {number}, {seats} seats"
-            );
-            assert_eq!(rt;
-                u128::from(closing.counts.taken),
-                total(ledger.taken.as_slice()),
-                "system {number}, {seats} seats"
-            );
+            for _ in 0..BANKS {
+                let mut hall = Hall::start(&rt, alloc, &figures, seats)?;
+                hall.work(&rt, TURNS);
+                let closing = hall.close(&rt, &figures)?;
+                let wins = closing.ledger.wins;
+                let taken = total(closing.ledger.taken.as_slice());
+                assert!(rt; wins > 0, "system {number}, {seats} seats");
+                assert_eq!(rt; closing.counts.wins, wins, "system {number}, {seats} seats");
+                assert_eq!(rt;
+                    u128::from(closing.counts.taken),
+                    taken,
+                    "system {number}, {seats} seats"
+                );
+            }
         }
     }
+    Ok(())
+}
+
+fn ask_shared<T: Sync>(_value: &T) {}
+
+fn ask_sent<T: Send>(_value: &T) {}
+
+// Threads may share a bank, and a seat may go to another thread.
+#[test]
+fn a_bank_is_shared_and_its_seats_are_sent(rt: HostRuntime) -> Result<(), Fail> {
+    let alloc = rt.alloc();
+    let system = System::new(alloc, &[500, 500], &[0, 500_000_000, 500_000_000, 0], 10)?;
+    let (bank, desk, seats) = Bank::start(alloc, &system, &[50, 0], 16)?;
+    ask_shared(&bank);
+    for seat in seats.as_slice() {
+        ask_sent(seat);
+    }
+    assert_eq!(rt; seats.len(), 16);
+    assert_eq!(rt; desk.out(), 16);
     Ok(())
 }
