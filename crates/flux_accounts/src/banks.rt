@@ -1,5 +1,5 @@
 // The words of a bank, and the steps on them.
-ghost use Rattle.std.specs.Prelude.{◌≡◌, ◌≢◌, ◌<◌, ◌≤◌, ◌+◌, ◌^◌, ℕ, IfOk, OnOk, IfSome, IfNone, List, [], length, map, replicate, slice_index, sum};
+ghost use Rattle.std.specs.Prelude.{◌≡◌, ◌<◌, ◌≤◌, ◌+◌, ◌^◌, ℕ, IfOk, OnOk, IfSome, IfNone, length, map, slice_index, sum};
 ghost use Rattle.std.specs.List.{range_with_len};
 ghost use Rattle.std.specs.Slots.{slots_items, slots_len, IsFull};
 ghost use Rattle.flux_system.specs.System.{patches};

@@ -17,20 +17,6 @@ after_steps-append threshold m [] more = refl
 after_steps-append threshold m (step ∷ steps) more = after_steps-append threshold (after_step threshold m step) steps more
 
 module _ (n threshold : ℕ) (old : SeatFacts) (old_remembered : List ℕ) where
-  pub no_gives : IsGiving n threshold old old_remembered old old_remembered
-  no_gives = record {
-    gives = [];
-    inside = All-nil (λ (g : Sighting). g.patch < n);
-    log = sym (append-nil old.history.log);
-    moments = λ m remembered account none. λ i. record m { remembered = remembered i; account = account i };
-    looks = refl;
-    lost = refl;
-    wins = refl;
-    system = refl;
-    number = refl;
-    table = refl;
-  }
-
   -- one give more
   pub more_gives : (seat : SeatFacts) (remembered : List ℕ) (target value : ℕ) (new : SeatFacts) → target < n → new ≡ record seat { history = after_giving seat.history target value } → IsGiving n threshold old old_remembered seat remembered
       → IsGiving n threshold old old_remembered new (set remembered target value)

@@ -83,22 +83,3 @@ module _ (s : FluxSystem) (old : ShooterFacts) where
         seat_lost = let had = so.seat_lost in let lost = pass.adds.lost in let more_lost = pass.lost in let sum = ap (λ (r : PassReport). r.lost) is in omega arith;
         number = pass.adds.number ∙ so.number;
       }
-
-  pub whole_rounds : (sums : PassReport) (won_last : ℕ) (new : ShooterFacts) → RoundsSoFar sums won_last new → (won_last ≡ 0) ⊎ (sums.passes ≡ most_passes) → AreRounds s old sums new
-  whole_rounds sums won_last new so ends = record {
-    before = so.before;
-    last = so.last;
-    each = so.each;
-    winners = so.winners;
-    ends = subst (λ (x : ℕ). (x ≡ 0) ⊎ (sums.passes ≡ most_passes)) so.last_is ends;
-    passes = so.passes;
-    few = so.few;
-    won = so.won;
-    low = so.low;
-    lost = so.lost;
-    total = so.total;
-    seat_looks = so.seat_looks;
-    seat_wins = so.seat_wins;
-    seat_lost = so.seat_lost;
-    number = so.number;
-  }

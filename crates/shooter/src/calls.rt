@@ -1,8 +1,7 @@
 // What shooters do.
-ghost use Rattle.std.specs.Prelude.{◌≡◌, ◌<◌, ◌≤◌, ◌+◌, ◌%◌, IfOk, length, replicate};
+ghost use Rattle.std.specs.Prelude.{◌≡◌, ◌<◌, ◌%◌, IfOk, replicate};
 ghost use Rattle.flux_system.specs.System.{patches};
 ghost use Rattle.flux_accounts.specs.Banks.{IsSeatOf, HasEmptyHand};
-ghost use Rattle.flux_accounts.specs.Answers.{IsTake};
 ghost use Rattle.shooter.specs.Shooters.{IsShot, IsPass, AreRounds};
 
 use crate::passes::make_turns;

@@ -131,9 +131,6 @@ module _ (s : FluxSystem) (flux residual : List ℕ) (all : List View) (h : Acco
     abbrev u : View
     u = get_or all o spent_view
 
-    u_of_system : IsOfSystem s flux u
-    u_of_system = subst (λ (r : Role). HasShape s flux r u) actor (h.shape o spent_view there)
-
     abbrev retirer : View
     retirer = after_retire v u
 

@@ -57,9 +57,6 @@ module _ (s : FluxSystem) (direct words : List ℕ) (desk : DeskAccount) (hired 
     pub is_hired-there : (k : ℕ) (a : Account) → k < hired → get_or actors k a ≡ a → not a.is_retired ≡ is_hired world_of k
     is_hired-there k a there at = is_hired_in a ∙ ap (λ (v : View). is_actor v.role) (sym (actor_view k a there ∙ ap (account_view s direct) at))
 
-    pub is_hired-past : (k : ℕ) → hired ≤ k → false ≡ is_hired world_of k
-    is_hired-past k past = ap (λ (v : View). is_actor v.role) (sym (no_view k past))
-
     pub views_set : (k : ℕ) (a : Account) → k < hired → views_of s direct desk hired (set actors k a) ≡ set (views_of s direct desk hired actors) (k + 1) (account_view s direct a)
     views_set k a there =
         ap (λ (vs : List View). desk_view s direct desk ∷ vs)

@@ -1,5 +1,5 @@
 // A world of actors over the words of a system, one event after another.
-ghost use Rattle.std.specs.Prelude.{◌≡◌, ◌<◌, ◌≤◌, ◌+◌, ◌&&◌, ◌^◌, ℕ, true, false, if◌then◌else◌, nat_lt, nat_le, IfOk, IfSome, is_some, List, [], ◌∷◌, length, take, slice_index, sum};
+ghost use Rattle.std.specs.Prelude.{◌≡◌, ◌<◌, ◌≤◌, ◌+◌, ◌&&◌, ◌^◌, ℕ, true, if◌then◌else◌, nat_lt, nat_le, IfOk, IfSome, is_some, length, take, slice_index, sum};
 ghost use Rattle.flux_system.specs.System.{patches};
 ghost use Rattle.flux_system.specs.declared.TheConstants.{MOST_SEATS};
 ghost use Rattle.shot_core.specs.declared.events.Event.TheVariants.{Hire, Take, Give, Retire};

@@ -2,7 +2,7 @@
 use crate::equations::total;
 use crate::figures::{SYSTEMS, figures_of};
 use crate::halls::Hall;
-use flux_accounts::Bank;
+use flux_accounts::{Bank, cross_threads};
 use flux_system::System;
 use std::test::Fail;
 
@@ -39,19 +39,14 @@ fn threads_leave_a_ledger_that_balances(rt: HostRuntime) -> Result<(), Fail> {
     Ok(())
 }
 
-fn ask_shared<T: Sync>(_value: &T) {}
-
-fn ask_sent<T: Send>(_value: &T) {}
-
 // Threads may share a bank, and a seat may go to another thread.
 #[test]
 fn a_bank_is_shared_and_its_seats_are_sent(rt: HostRuntime) -> Result<(), Fail> {
     let alloc = rt.alloc();
     let system = System::new(alloc, &[500, 500], &[0, 500_000_000, 500_000_000, 0], 10)?;
     let (bank, desk, seats) = Bank::start(alloc, &system, &[50, 0], 16)?;
-    ask_shared(&bank);
     for seat in seats.as_slice() {
-        ask_sent(seat);
+        cross_threads(&bank, seat, &desk);
     }
     assert_eq!(rt; seats.len(), 16);
     assert_eq!(rt; desk.out(), 16);
