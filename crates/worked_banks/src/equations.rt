@@ -65,6 +65,20 @@ pub(crate) fn assert_equations(
     Ok(())
 }
 
+// The ledger of a crew with so many shooters, which leaves nothing that could be taken.
+pub(crate) fn assert_finished(
+    rt: &impl Abort,
+    figures: &Figures,
+    ledger: &Ledger,
+    shooters: u32,
+) -> Result<(), Fail> {
+    assert_equations(rt, figures, ledger, shooters)?;
+    for residual in ledger.residual.as_slice() {
+        assert!(rt; *residual < figures.threshold);
+    }
+    Ok(())
+}
+
 // The sum of some numbers.
 pub(crate) fn total(numbers: &[u64]) -> u128 {
     let mut sum: u128 = 0;

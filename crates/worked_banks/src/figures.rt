@@ -1,6 +1,12 @@
 // The figures of flux systems, as they stand before there is a system.
-use flux_system::{System, SystemFault};
+ghost use Rattle.std.specs.Prelude.{◌≡◌, ◌≤◌, ◌^◌, IfOk, length, sum};
+ghost use Rattle.flux_system.specs.System.{patches};
+ghost use Rattle.flux_system.specs.declared.TheConstants.{MOST_PATCHES};
+
+use flux_system::{MOST_PATCHES, System, SystemFault};
 use std::alloc::{AllocError, Global};
+use std::process::Abort;
+use std::test::Fail;
 
 // The reflectances, the shares, the threshold and the direct flux.
 #[derive(Drop)]
@@ -37,7 +43,12 @@ impl Figures {
         })
     }
 
-    pub(crate) fn system(&self, alloc: Global) -> Result<System, SystemFault> {
+    // Whether some patch has enough flux to be taken.
+    pub(crate) fn is_lit(&self) -> bool {
+        self.direct.iter().any(|flux| *flux >= self.threshold)
+    }
+
+    fn system(&self, alloc: Global) -> Result<System, SystemFault> {
         System::new(
             alloc,
             self.reflectance.as_slice(),
@@ -45,6 +56,26 @@ impl Figures {
             self.threshold,
         )
     }
+
+    // The system, over which a bank may be opened with the direct flux.
+    pub(crate) fn lit_system(&self, rt: &impl Abort, alloc: Global) -> Result<System, Fail>
+        ensures lengths { IfOk result (λ system. length self.now.direct.items ≡ patches system) }
+        ensures flux { IfOk result (λ _. sum self.now.direct.items ≤ 10 ^ 16) }
+    {
+        let system = self.system(alloc)?;
+        assert_eq!(rt; self.direct.len(), system.len());
+        assert!(rt; self.direct.len() <= MOST_PATCHES);
+        assert!(rt; total_flux(self.direct.as_slice()) <= 10_000_000_000_000_000);
+        Ok(system)
+    }
+}
+
+// All direct flux together.
+fn total_flux(direct: &[u64]) -> u128
+    requires { length direct.now ≤ MOST_PATCHES }
+    ensures { result ≡ sum direct.now }
+{
+    direct.iter().map(|flux| u128::from(*flux)).sum()
 }
 
 // Which patches get a share of a patch's flux.
@@ -76,7 +107,7 @@ struct Recipe {
 }
 
 // How many systems there are.
-pub(crate) const SYSTEMS: u32 = 12;
+pub(crate) const SYSTEMS: u32 = 13;
 
 fn recipe_of(number: u32) -> Recipe {
     let (patches, way, most_reflectance, threshold, flux) = match number {
@@ -92,6 +123,8 @@ fn recipe_of(number: u32) -> Recipe {
         8 => (12, Way::Next, 950, 1, 50_000_000_000_001),
         9 => (16, Way::Third, 950, 1_000_000, 600_000_000_000_007),
         10 => (40, Way::Everywhere, 30, 2, 31_415_926_535),
+        // No patch has flux.
+        11 => (7, Way::Everywhere, 950, 1, 0),
         // A threshold that words reach a few times each.
         _ => (
             9,

@@ -1,6 +1,5 @@
 // A bank with all that belongs to it.
-ghost use Rattle.std.specs.Prelude.{◌≡◌, ◌≤◌, All, IfOk, length, sum};
-ghost use Rattle.flux_system.specs.declared.TheConstants.{MOST_PATCHES};
+ghost use Rattle.std.specs.Prelude.{◌≡◌, All, IfOk};
 ghost use Rattle.flux_accounts.specs.Banks.{IsDeskOf, IsSeatOf};
 
 use crate::equations::assert_equations;
@@ -8,7 +7,7 @@ use crate::figures::Figures;
 use crate::shooters::{Shooter, give_all};
 use flux_accounts::{Bank, Desk, Given, Seat, Take};
 use flux_ledger::Ledger;
-use flux_system::{MOST_PATCHES, MOST_SEATS, System};
+use flux_system::{MOST_SEATS, System};
 use std::alloc::{AllocError, Global};
 use std::process::Abort;
 use std::test::Fail;
@@ -42,14 +41,6 @@ pub(crate) struct Closing {
     pub(crate) counts: Counts,
 }
 
-// All direct flux together.
-pub(crate) fn total_flux(direct: &[u64]) -> u128
-    requires { length direct.now ≤ MOST_PATCHES }
-    ensures { result ≡ sum direct.now }
-{
-    direct.iter().map(|flux| u128::from(*flux)).sum()
-}
-
 impl Hall {
     #[tactic(auto, using(crate::proofs::Hired::hired_seats))]
     pub(crate) fn start(
@@ -58,13 +49,9 @@ impl Hall {
         figures: &Figures,
         seats: u32,
     ) -> Result<Hall, Fail> {
-        let direct = figures.direct.as_slice();
-        let system = figures.system(alloc)?;
-        assert_eq!(rt; direct.len(), system.len());
-        assert!(rt; direct.len() <= MOST_PATCHES);
-        assert!(rt; total_flux(direct) <= 10_000_000_000_000_000);
+        let system = figures.lit_system(rt, alloc)?;
         assert!(rt; 1 <= seats && seats <= MOST_SEATS);
-        let (bank, desk, seats) = Bank::start(alloc, &system, direct, seats)?;
+        let (bank, desk, seats) = Bank::start(alloc, &system, figures.direct.as_slice(), seats)?;
         let shooters = shooters_of(alloc, &bank, seats)?;
         Ok(Hall {
             system,

@@ -26,7 +26,11 @@ fn threads_leave_a_ledger_that_balances(rt: HostRuntime) -> Result<(), Fail> {
                 let closing = hall.close(&rt, &figures)?;
                 let wins = closing.ledger.wins;
                 let taken = total(closing.ledger.taken.as_slice());
-                assert!(rt; wins > 0, "system {number}, {seats} seats");
+                assert_eq!(rt;
+                    wins > 0,
+                    figures.is_lit(),
+                    "system {number}, {seats} seats"
+                );
                 assert_eq!(rt; closing.counts.wins, wins, "system {number}, {seats} seats");
                 assert_eq!(rt;
                     u128::from(closing.counts.taken),

@@ -1,0 +1,4 @@
+mod Hired
+mod Rounds
+mod Sums
+mod Settled
