@@ -3,6 +3,10 @@
 #
 # A case is a folder of cases/ with the files `words` (one word a line) and whatever the words name, and with what is
 # expected: `stdout` and `stderr` (absent: nothing) and `status` (absent: 0). It is run in its own folder.
+#
+# What several shooters write may differ from run to run: four projects run with 2, 4 and 16 of them, three times each,
+# or RUNS times with `check.sh RUNS`, and check_ledgers.py checks each ledger.
+runs=${1:-3}
 here=$(cd "$(dirname "$0")" && pwd)
 program=$here/../crates/lux/out/lux
 [ -x "$program" ] || "$here/../build"
@@ -49,11 +53,11 @@ done
 run small-eulumdat small.photo.txt "" 0 photo small.ldt
 cd "$here/.." || exit 1
 for project in closet cube hall; do
-  run "$project-project" "examples/$project.run.txt" "" 0 run "examples/$project.toml"
+  run "$project-project" "examples/$project.run.txt" "" 0 run "examples/$project.toml" --shooters 1
 done
 for project in office classroom; do
   folder=examples/$project
-  run "$project-project" "$folder/$project.run.txt" "" 0 run "$folder/$project.toml"
+  run "$project-project" "$folder/$project.run.txt" "" 0 run "$folder/$project.toml" --shooters 1
 done
 cd "$here" || exit 1
 
@@ -94,7 +98,7 @@ cp "$here/one.ies" .
 sed 's|examples/||' "$here/cube.toml" >cube.toml
 run folder-as-project nothing "lux: cannot read folder" 6 run folder
 { cat cube.toml; head -c $((4194304 - $(wc -c <cube.toml))) /dev/zero | tr '\0' '\n'; } >most.toml
-run most-project-bytes "$here/cube.run.txt" "" 0 run most.toml
+run most-project-bytes "$here/cube.run.txt" "" 0 run most.toml --shooters 1
 echo >>most.toml
 run too-long-project nothing "lux: file too long: most.toml" 6 run most.toml
 sed 's/one\.ies/more.ies/' cube.toml >more.toml
@@ -107,7 +111,7 @@ echo $? >"$room/status"
 echo "lux: cannot write" >"$room/note"
 : >"$room/stdout"
 compare closed-output nothing "$room/note" 7
-"$program" run cube.toml >&- 2>"$room/stderr"
+"$program" run cube.toml --shooters 1 >&- 2>"$room/stderr"
 echo $? >"$room/status"
 compare closed-output-of-run nothing "$room/note" 7
 if [ -c /dev/full ]; then
@@ -115,6 +119,39 @@ if [ -c /dev/full ]; then
   echo $? >"$room/status"
   compare full-output nothing "$room/note" 7
 fi
+
+# check_shooters PROJECT: runs a project with several shooters and has all ledgers checked. What a run notes, and how it
+# ends where it fails, goes into its ledger, which is then none.
+check_shooters() {
+  local name=${1##*/} project=examples/$1.toml reference=examples/$1.run.txt shooters number ledger
+  local ledgers=("1:$reference")
+  for shooters in 2 4 16; do
+    for ((number = 1; number <= runs; number++)); do
+      ledger=$room/$name-$shooters-$number
+      "$program" run "$project" --shooters "$shooters" >"$ledger" 2>&1 || echo "status $?" >>"$ledger"
+      ledgers+=("$shooters:$ledger")
+    done
+  done
+  if python3 examples/check_ledgers.py "$project" "$reference" "${ledgers[@]}" >"$room/answer" 2>&1; then
+    passed=$((passed + 1))
+  else
+    failed=$((failed + 1))
+    trap - EXIT
+    echo "examples: $name with several shooters: $(tail -n 1 "$room/answer"); the ledgers are kept in $room"
+    head -n -1 "$room/answer" | head -n 5
+  fi
+}
+
+cd "$here/.." || exit 1
+examples/check_ledgers_test.sh
+case $? in
+  0)
+    passed=$((passed + 1))
+    for project in closet office/office classroom/classroom hall; do check_shooters "$project"; done
+    ;;
+  77) echo "examples: the ledgers of several shooters are skipped: there is no python3 with tomllib, as 3.11 has it" ;;
+  *) failed=$((failed + 1)) ;;
+esac
 
 echo "examples: $passed passed, $failed failed"
 [ "$failed" = 0 ]

@@ -16,7 +16,7 @@ refusal_by_memory : (command : Option Command) (before after : World) → Refuse
 refusal_by_memory None before after refuses = refuses
 refusal_by_memory (Some (Solve name)) before after refuses = (refuses, tt)
 refusal_by_memory (Some (Photo name)) before after refuses = (refuses, tt)
-refusal_by_memory (Some (Run name)) before after refuses = (refuses, tt)
+refusal_by_memory (Some (Run name shooters)) before after refuses = (refuses, tt)
 
 -- want of memory for the words
 pub memory_row : (command : Option Command) (before after : World) (outcome : Outcome) → Concludes (Err Memory) before after outcome → CommandRow command before after outcome.answer

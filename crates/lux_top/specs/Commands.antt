@@ -1,18 +1,36 @@
 -- The commands, which are this project's own: which of them some words are, what it reads and answers, and when each answer
 -- comes. A new command adds a line to each table.
-use Rattle.std.specs.Prelude.{ℕ, List, [], ◌∷◌, codes, Option, Some, None}
-use Rattle.std.specs.Option.{option_map}
+use Rattle.std.specs.Prelude.{ℕ, ◌&&◌, if◌then◌else◌, List, [], ◌∷◌, codes, Option, Some, None, option_and_then}
+use Rattle.std.specs.Option.{option_map, option_map_or}
 use Rattle.lux_answers.specs.declared.answers.Answer.{Answer}
 use Rattle.lux_answers.specs.declared.answers.Answer.TheVariants.{Usage, Memory}
+use Rattle.lux_lines.specs.Numerals.{is_numeral, numeral_value}
 use Rattle.lux_plans.specs.Plans.{Plan, Refuse}
 use Rattle.lux_plans.specs.Runs.{World, Refuses}
 use Rattle.lux_plans.specs.Writings.{Writing}
-use Rattle.lux_words.specs.Words.{no_options, only_operand}
+use Rattle.lux_words.specs.Words.{Options, no_options, only_operand, setting_of}
 use Rattle.lux_top.specs.declared.commands.Command.{Command}
 use Rattle.lux_top.specs.declared.commands.Command.TheVariants.{Solve, Photo, Run}
 use Rattle.lux_top.specs.PhotoCommand.{photo_plan, PhotoRow}
 use Rattle.lux_top.specs.RunCommand.{run_plan, RunRow}
+use Rattle.lux_top.specs.ShooterCounts.{is_shooter_count, default_shooters}
 use Rattle.lux_top.specs.SolveCommand.{solve_plan, SolveRow}
+
+-- the number of shooters that a word says: a numeral of 1 to 16
+abbrev pub shooters_in : List ℕ → Option ℕ
+shooters_in word = if is_numeral word && is_shooter_count (numeral_value word) then Some (numeral_value word) else None
+
+-- the number of shooters that words ask for: what the option's value says, or the default where the option isn't there
+abbrev pub shooters_of : List (List ℕ) → Option ℕ
+shooters_of words = option_map_or shooters_in (setting_of (codes "--shooters") words) (Some default_shooters)
+
+-- `run` takes one option
+abbrev pub run_options : Options
+run_options = record { flags = []; settings = codes "--shooters" ∷ [] }
+
+-- the words of `run`: one file, and a number of shooters
+abbrev pub run_of : List (List ℕ) → Option Command
+run_of words = option_and_then (λ name. option_map (Run name) (shooters_of words)) (only_operand (codes "run") run_options words)
 
 -- the first of some readings of the words that is a command
 abbrev pub first_command : List (Option Command) → Option Command
@@ -25,7 +43,7 @@ abbrev pub command_of : List (List ℕ) → Option Command
 command_of words = first_command (
     option_map Solve (only_operand (codes "solve") no_options words)
     ∷ option_map Photo (only_operand (codes "photo") no_options words)
-    ∷ option_map Run (only_operand (codes "run") no_options words)
+    ∷ run_of words
     ∷ [])
 
 -- what each command reads and answers; other words are answered by the usage
@@ -33,7 +51,7 @@ abbrev pub plan_of : Option Command → Plan Writing
 plan_of None = Refuse Usage
 plan_of (Some (Solve name)) = solve_plan name
 plan_of (Some (Photo name)) = photo_plan name
-plan_of (Some (Run name)) = run_plan name
+plan_of (Some (Run name shooters)) = run_plan name shooters
 
 -- words that are no command get the usage line, or want of memory, and nothing is written
 abbrev pub UsageRow : World → World → Answer → Type 0
@@ -46,4 +64,4 @@ abbrev pub CommandRow : Option Command → World → World → Answer → Type 0
 CommandRow None before after answer = UsageRow before after answer
 CommandRow (Some (Solve name)) before after answer = SolveRow name before after answer
 CommandRow (Some (Photo name)) before after answer = PhotoRow name before after answer
-CommandRow (Some (Run name)) before after answer = RunRow name before after answer
+CommandRow (Some (Run name shooters)) before after answer = RunRow name shooters before after answer

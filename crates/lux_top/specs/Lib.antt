@@ -4,5 +4,6 @@ pub mod PhotometryFiles
 pub mod ProjectFiles
 pub mod RunCommand
 pub mod Settlements
+pub mod ShooterCounts
 pub mod SolveCommand
 pub mod SystemFiles

@@ -1,5 +1,5 @@
--- `run PROJECT`: a project and the photometry of its luminaires are read, its room is lit, the flux settled on one thread, and
--- what is exact enclosed.
+-- `run PROJECT [--shooters N]`: a project and the photometry of its luminaires are read, its room is lit, its flux shot by so many
+-- shooters and then settled, and what is exact enclosed.
 use Rattle.std.specs.Prelude.{◌≡◌, ℕ, List, Err}
 use Rattle.flux_ledger.specs.declared.ledger.Ledger.{Ledger}
 use Rattle.lit_room.specs.LitRooms.{Lighting, system_of, flux_of, lit_room_of}
@@ -14,7 +14,7 @@ use Rattle.lux_plans.specs.Runs.{World, Row}
 use Rattle.lux_plans.specs.Writings.{Writing}
 use Rattle.lux_top.specs.PhotometryFiles.{photometry_in, most_photometry_bytes}
 use Rattle.lux_top.specs.ProjectFiles.{lit_room_file, most_project_bytes, IsFileLighting, IsFileLitRoom, IsNextFile, IsNextPhotometry}
-use Rattle.lux_top.specs.Settlements.{IsSettledLedger, IsSolved, IsCutOff, ledger_with_intervals, no_verdict, settlement}
+use Rattle.lux_top.specs.Settlements.{IsCrewLedger, IsSolved, IsCutOff, crew_settlement, ledger_with_intervals, no_verdict}
 use Rattle.lux_top.specs.SystemFiles.{Problem}
 
 -- the flux system of a lit room, and the direct flux of its luminaires
@@ -22,8 +22,8 @@ abbrev pub problem_of : Lighting → Problem
 problem_of lighting = (system_of lighting, flux_of lighting)
 
 -- what it reads, and what it then writes
-abbrev pub run_plan : List ℕ → Plan Writing
-run_plan name = and_then (lit_room_file name) (λ lighting. settlement (problem_of lighting))
+abbrev pub run_plan : List ℕ → ℕ → Plan Writing
+run_plan name shooters = and_then (lit_room_file name) (λ lighting. crew_settlement shooters (problem_of lighting))
 
 -- the file says a project and webs that are no lit room, for this reason
 pub record IsUnlit (shelf : ShelfState) (name : List ℕ) (fault : LightFault) : Type 0 where
@@ -45,20 +45,20 @@ RunRefusal name before after (answer.Limits fault) = IsUnlit before name (light.
 RunRefusal name before after answer.Memory = Unit {0}
 RunRefusal name before after _ = ⊥
 
--- the settled ledger of a lit room, and its text
-abbrev pub IsRoomLedger : Lighting → Ledger → Type 0
-IsRoomLedger lighting ledger = IsSettledLedger (problem_of lighting) ledger
+-- a ledger that so many shooters leave of a lit room, and its text
+abbrev pub IsRoomLedger : ℕ → Lighting → Ledger → Type 0
+IsRoomLedger shooters lighting ledger = IsCrewLedger shooters (problem_of lighting) ledger
 
 abbrev pub room_text : Lighting → Ledger → List ℕ
 room_text lighting ledger = ledger_with_intervals (system_of lighting) ledger
 
 -- the file's lit room was solved, and all or a part of its text was written
-abbrev pub SolvesProject : List ℕ → World → World → Answer → Type 0
-SolvesProject name before after = IsSolved (IsFileLitRoom before.shelf name) problem_of IsRoomLedger no_verdict room_text before after
+abbrev pub SolvesProject : List ℕ → ℕ → World → World → Answer → Type 0
+SolvesProject name shooters before after = IsSolved (IsFileLitRoom before.shelf name) problem_of (IsRoomLedger shooters) no_verdict room_text before after
 
-abbrev pub SolvesProjectInPart : List ℕ → World → World → Type 0
-SolvesProjectInPart name before after = IsCutOff (IsFileLitRoom before.shelf name) problem_of IsRoomLedger room_text before after
+abbrev pub SolvesProjectInPart : List ℕ → ℕ → World → World → Type 0
+SolvesProjectInPart name shooters before after = IsCutOff (IsFileLitRoom before.shelf name) problem_of (IsRoomLedger shooters) room_text before after
 
 -- when each answer comes
-abbrev pub RunRow : List ℕ → World → World → Answer → Type 0
-RunRow name before after = Row (SolvesProject name before after) (SolvesProjectInPart name before after) (RunRefusal name before.shelf after.shelf) before after
+abbrev pub RunRow : List ℕ → ℕ → World → World → Answer → Type 0
+RunRow name shooters before after = Row (SolvesProject name shooters before after) (SolvesProjectInPart name shooters before after) (RunRefusal name before.shelf after.shelf) before after

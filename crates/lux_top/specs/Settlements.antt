@@ -1,5 +1,5 @@
--- A problem that is settled: its ledger, with the interval of each patch, as text.
-use Rattle.std.specs.Prelude.{◌≡◌, ℕ, ◌++◌, List, Some}
+-- A problem that is settled, on one thread or by a crew of shooters: its ledger, with the interval of each patch, as text.
+use Rattle.std.specs.Prelude.{◌≡◌, ℕ, ◌+◌, ◌++◌, List, Some}
 use Rattle.enclosure.specs.Interval.{intervals_of, EnclosesAll}
 use Rattle.flux_ledger.specs.Balance.{IsBalanced, IsFinished, IsPaid}
 use Rattle.flux_ledger.specs.IntervalLines.{interval_lines}
@@ -33,17 +33,27 @@ pub record IsSettledLedger (problem : Problem) (ledger : Ledger) : Type 0 where
   pub one_account : ledger.parts ≡ 1
   pub is_ledger : IsLedgerOf problem ledger
 
+-- a ledger of the problem that so many shooters and a desk have an account of
+pub record IsCrewLedger (shooters : ℕ) (problem : Problem) (ledger : Ledger) : Type 0 where
+  pub accounts : ledger.parts ≡ 1 + shooters
+  pub is_ledger : IsLedgerOf problem ledger
+
 -- a ledger's text, and a line for the interval of each patch
 abbrev pub ledger_with_intervals : FluxSystem → Ledger → List ℕ
 ledger_with_intervals system ledger = ledger_text ledger ++ interval_lines (intervals_of system ledger)
 
--- what is written of a settled ledger
+-- what is written of a ledger of a problem
 abbrev pub settled_writing : Problem → Ledger → Writing
 settled_writing problem ledger = record { answer = Done (Some ledger) AllPass; bytes = ledger_with_intervals problem.0 ledger }
 
 -- the settled ledger of a problem within the limits, and its text with its intervals
 abbrev pub settlement : Problem → Plan Writing
 settlement problem = Choose (IsSettledLedger problem) (λ ledger. Give (settled_writing problem ledger))
+
+-- some ledger that so many shooters leave of a problem within the limits, and its text with its intervals: which one it is may
+-- depend on who took what when
+abbrev pub crew_settlement : ℕ → Problem → Plan Writing
+crew_settlement shooters problem = Choose (IsCrewLedger shooters problem) (λ ledger. Give (settled_writing problem ledger))
 
 -- this ledger is of a value that is said, whose problem is within the limits, and the fact holds of it
 pub record IsSolvedBy {P : Type 0} (Says : P → Type 0) (problem_of : P → Problem) (IsLedger : P → Ledger → Type 0) (value : P) (ledger : Ledger) : Type 0 where

@@ -1,11 +1,16 @@
 // What the words of a command line ask for.
 ghost use Rattle.std.specs.Prelude.{◌≡◌, map, IfOk, string_bytes};
 ghost use Rattle.lux_words.specs.Words.{only_operand};
-ghost use Rattle.lux_top.specs.Commands.{command_of};
+ghost use Rattle.lux_top.specs.Commands.{command_of, run_of, shooters_of};
 
+use crate::shooter_counts::ShooterCount;
 use lux_io::Name;
-use lux_words::{Options, operands, word};
+use lux_lines::numeral;
+use lux_words::{Options, operands, setting, word};
 use std::alloc::{AllocError, Global};
+
+// The option of `run` whose value is the number of its shooters.
+const SHOOTERS: &str = "--shooters";
 
 /// A command with its values.
 #[derive(Debug, Drop)]
@@ -14,8 +19,8 @@ pub enum Command {
     Solve(Name),
     /// `photo FILE`
     Photo(Name),
-    /// `run PROJECT`
-    Run(Name),
+    /// `run PROJECT [--shooters N]`
+    Run(Name, ShooterCount),
 }
 
 // The only operand of a command, where the words are this command with one.
@@ -50,8 +55,32 @@ pub fn read_words(alloc: Global, words: &[String]) -> Result<Option<Command>, Al
     if let Some(name) = only_operand(alloc, words, "photo", &none)? {
         return Ok(Some(Command::Photo(name)));
     }
-    if let Some(name) = only_operand(alloc, words, "run", &none)? {
-        return Ok(Some(Command::Run(name)));
+    read_run(alloc, words)
+}
+
+// The command `run` that the words are, or none.
+fn read_run(alloc: Global, words: &[String]) -> Result<Option<Command>, AllocError>
+    ensures { IfOk result (λ command. command ≡ run_of (map string_bytes words.now)) }
+{
+    let options = Options {
+        flags: &[],
+        settings: &[SHOOTERS],
+    };
+    let Some(name) = only_operand(alloc, words, "run", &options)? else {
+        return Ok(None);
+    };
+    let Some(shooters) = read_shooters(words) else {
+        return Ok(None);
+    };
+    Ok(Some(Command::Run(name, shooters)))
+}
+
+// How many shooters the words ask for, or none where the option's value is no such number.
+fn read_shooters(words: &[String]) -> Option<ShooterCount>
+    ensures { result ≡ shooters_of (map string_bytes words.now) }
+{
+    match setting(words, SHOOTERS) {
+        Some(value) => ShooterCount::new(numeral(value.as_bytes())?),
+        None => Some(ShooterCount::default()),
     }
-    Ok(None)
 }

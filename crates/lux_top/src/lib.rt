@@ -2,17 +2,19 @@
 //!
 //! [`lux`] does what the words say, and each command is a public call of its own: [`solve`], [`photo`] and [`run`]. A command
 //! is one file, which composes stages: the problem of a system file, the photometry of a file, the lit room of a project
-//! file, and the settlement of a problem. `specs/` mirrors this: a file for each stage and each command, and
-//! `specs/Commands.antt` with which command some words are. What a call promises that follows a plan stands in `lux_plans`,
-//! and what the answers are in `lux_answers`.
+//! file, and the settlement of a problem, on one thread or by a crew of shooters. `specs/` mirrors this: a file for each
+//! stage and each command, and `specs/Commands.antt` with which command some words are. What a call promises that follows
+//! a plan stands in `lux_plans`, and what the answers are in `lux_answers`.
 #![tactic(auto)]
 
 mod commands;
+mod crews;
 mod photo_command;
 mod photometry_files;
 mod project_files;
 mod run_command;
 mod settlements;
+mod shooter_counts;
 mod solve_command;
 mod system_files;
 mod top;
@@ -21,5 +23,6 @@ pub use commands::{Command, read_words};
 pub use lux_answers::{Answer, Outcome, PhotoFault, Worst};
 pub use photo_command::photo;
 pub use run_command::run;
+pub use shooter_counts::ShooterCount;
 pub use solve_command::solve;
 pub use top::lux;

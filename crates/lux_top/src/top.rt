@@ -18,7 +18,8 @@ use std::thread::Threads;
 /// to `notes` for each answer but `Done`. Words that are no command answer `Usage`.
 ///
 /// The bytes are made whole and then put in pieces of 4,096, so that an answer other than `Done` and `Write` writes
-/// nothing. `rt` starts the threads that make a room's shares; `gate` is for commands that start shooters.
+/// nothing. `rt` starts the threads that make a room's shares and those of shooters; `gate` is called before each turn of a
+/// shooter.
 pub fn lux<R: Threads + Wait + Sync, S: Shelf, K: Sink, N: Sink, G: Gate>(
     rt: &R,
     alloc: Global,
@@ -26,7 +27,7 @@ pub fn lux<R: Threads + Wait + Sync, S: Shelf, K: Sink, N: Sink, G: Gate>(
     shelf: &mut S,
     out: &mut K,
     notes: &mut N,
-    _gate: &G,
+    gate: &G,
 ) -> Outcome
     ensures follows { Follows (plan_of (command_of (map string_bytes words.now)))
         (world (S.state shelf.old) (K.state out.old) (N.state notes.old))
@@ -40,18 +41,19 @@ pub fn lux<R: Threads + Wait + Sync, S: Shelf, K: Sink, N: Sink, G: Gate>(
     match read_words(alloc, words) {
         Err(_) => conclude(alloc, Err(Answer::Memory), out, notes),
         Ok(None) => conclude(alloc, Err(Answer::Usage), out, notes),
-        Ok(Some(command)) => obey(rt, alloc, command, shelf, out, notes),
+        Ok(Some(command)) => obey(rt, alloc, command, shelf, out, notes, gate),
     }
 }
 
 // Does a command.
-fn obey<S: Shelf, K: Sink, N: Sink>(
-    rt: &(impl Threads + Sync),
+fn obey<R: Threads + Sync, S: Shelf, K: Sink, N: Sink, G: Gate>(
+    rt: &R,
     alloc: Global,
     command: Command,
     shelf: &mut S,
     out: &mut K,
     notes: &mut N,
+    gate: &G,
 ) -> Outcome
     ensures follows { Follows (plan_of (Some command))
         (world (S.state shelf.old) (K.state out.old) (N.state notes.old))
@@ -65,6 +67,6 @@ fn obey<S: Shelf, K: Sink, N: Sink>(
     match command {
         Command::Solve(name) => solve(alloc, &name, shelf, out, notes),
         Command::Photo(name) => photo(alloc, &name, shelf, out, notes),
-        Command::Run(name) => run(rt, alloc, &name, shelf, out, notes),
+        Command::Run(name, shooters) => run(rt, alloc, &name, shooters, shelf, out, notes, gate),
     }
 }

@@ -1,7 +1,8 @@
 -- The words of a command line, without the program's name: a keyword, and behind it operands and options in any order. The
 -- rules are this project's own.
-use Rattle.std.specs.Prelude.{ℕ, ◌+◌, ◌-◌, ◌==◌, ◌&&◌, ◌||◌, not, nat_lt, nat_le, if◌then◌else◌, Bool, List, [], ◌∷◌, length, map, filter, take, slice_index, slice_index_or, Option, Some, None, option_and_then}
+use Rattle.std.specs.Prelude.{ℕ, ◌+◌, ◌-◌, ◌==◌, ◌&&◌, ◌||◌, not, nat_lt, nat_le, if◌then◌else◌, Bool, List, [], ◌∷◌, length, map, filter, take, position, slice_index, slice_index_or, Option, Some, None, option_and_then}
 use Rattle.std.specs.List.{list_any, list_all, range_with_len}
+use Rattle.std.specs.Option.{option_map}
 use Rattle.std.specs.Str.{bytes_eq}
 
 -- the word at a place, or an empty one
@@ -67,3 +68,8 @@ only_operand keyword options words = option_and_then only (operands_of keyword o
     only : List (List ℕ) → Option (List ℕ)
     only (operand ∷ []) = Some operand
     only _ = None
+
+-- the value of an option: the word behind the first place where it stands, or an empty one. In words that are a command an
+-- option stands once, and its value has an operand's form.
+unfoldable pub setting_of : List ℕ → List (List ℕ) → Option (List ℕ)
+setting_of option words = option_map (λ place. word_at words (place + 1)) (position (λ word. bytes_eq word option) words)

@@ -1,7 +1,9 @@
-// Files of shelves in memory.
-use lux_io::{MemShelf, MemSink, Name};
-use lux_top::{Outcome, run, solve};
+// `lux` and `solve` over files in memory.
+use crate::words::words_of;
+use lux_io::{Gate, MemShelf, MemSink, Name};
+use lux_top::{Outcome, lux, solve};
 use std::alloc::Global;
+use std::sync::Wait;
 use std::test::Fail;
 use std::thread::Threads;
 
@@ -10,16 +12,18 @@ pub fn file(alloc: Global, name: &str, text: &str) -> Result<(Name, Vec<u8>), Fa
     Ok((Name::new(alloc, name)?, text.as_bytes().to_vec(alloc)?))
 }
 
-/// `run` over files in memory, called in one place for all tests: each place costs a proof.
-pub fn run_in_memory(
-    rt: &(impl Threads + Sync),
+/// `lux` over files in memory, called in one place for all tests: each place costs a proof.
+pub fn lux_in_memory<R: Threads + Wait + Sync, G: Gate>(
+    rt: &R,
     alloc: Global,
-    name: &Name,
+    line: &str,
     shelf: &mut MemShelf,
     out: &mut MemSink,
     notes: &mut MemSink,
-) -> Outcome {
-    run(rt, alloc, name, shelf, out, notes)
+    gate: &G,
+) -> Result<Outcome, Fail> {
+    let words = words_of(alloc, line)?;
+    Ok(lux(rt, alloc, &words, shelf, out, notes, gate))
 }
 
 /// `solve` likewise.

@@ -1,4 +1,5 @@
-//! Worked examples of the commands over files in memory: reads and pieces that fail, and what is read.
+//! Worked examples of the words of commands, and of the commands over files in memory: reads and pieces that fail, and what
+//! is read.
 //!
 //! This crate has tests alone, as `worked_examples` has. What the built program shows is in the cases of `examples/`.
 #![tactic(auto)]
@@ -6,6 +7,10 @@
 #[cfg(test)]
 mod files;
 #[cfg(test)]
+mod meetings;
+#[cfg(test)]
 mod running;
 #[cfg(test)]
 mod solving;
+#[cfg(test)]
+mod words;

@@ -1,6 +1,6 @@
 // `run` over files in memory: what it writes, and what it reads.
-use crate::files::{file, run_in_memory};
-use lux_io::{MemShelf, MemSink, Name};
+use crate::files::{file, lux_in_memory};
+use lux_io::{FreeGate, MemShelf, MemSink};
 use lux_top::Answer;
 use std::alloc::Global;
 use std::test::Fail;
@@ -11,7 +11,7 @@ const TWO_MORE: &str =
     "[[luminaire]]\nfile = \"one.ies\"\nx = 500\ny = 500\nz = 500\nrotation = 0\nlevel = 0\n[[luminaire]]\nfile = \"one.ies\"\nx = 500\ny = 500\nz = 500\nrotation = 0\nlevel = 0\n";
 
 const CUBE_LEDGER: &str =
-    "lux-ledger 1\npatches 6\nwins 0\nparts 1\npatch 0 direct 4000000000 taken 0 residual 4000000000 err 0\npatch 1 direct 4000000000 taken 0 residual 4000000000 err 0\npatch 2 direct 4000000000 taken 0 residual 4000000000 err 0\npatch 3 direct 4000000000 taken 0 residual 4000000000 err 0\npatch 4 direct 4000000000 taken 0 residual 4000000000 err 0\npatch 5 direct 4000000000 taken 0 residual 4000000000 err 0\ninterval 0 4000000000 8799999953\ninterval 1 4000000000 8799999953\ninterval 2 4000000000 8799999953\ninterval 3 4000000000 8799999953\ninterval 4 4000000000 8799999953\ninterval 5 4000000000 8799999953\n";
+    "lux-ledger 1\npatches 6\nwins 0\nparts 2\npatch 0 direct 4000000000 taken 0 residual 4000000000 err 0\npatch 1 direct 4000000000 taken 0 residual 4000000000 err 0\npatch 2 direct 4000000000 taken 0 residual 4000000000 err 0\npatch 3 direct 4000000000 taken 0 residual 4000000000 err 0\npatch 4 direct 4000000000 taken 0 residual 4000000000 err 0\npatch 5 direct 4000000000 taken 0 residual 4000000000 err 0\ninterval 0 4000000000 8799999953\ninterval 1 4000000000 8799999953\ninterval 2 4000000000 8799999953\ninterval 3 4000000000 8799999953\ninterval 4 4000000000 8799999953\ninterval 5 4000000000 8799999953\n";
 
 // The shelf of a project and its photometry, in which the reads of these numbers fail.
 fn shelf(alloc: Global, project: &str, failing: &[u64]) -> Result<MemShelf, Fail> {
@@ -24,13 +24,20 @@ fn shelf(alloc: Global, project: &str, failing: &[u64]) -> Result<MemShelf, Fail
 #[test]
 fn a_read_that_fails_names_its_file(rt: HostRuntime) -> Result<(), Fail> {
     let alloc = rt.alloc();
-    let cube = Name::new(alloc, "cube.toml")?;
     let rows: [(u64, &str); 2] = [(0, "cube.toml"), (1, "one.ies")];
     for (failing, expected) in rows {
         let mut shelf = shelf(alloc, CUBE, &[failing])?;
         let mut out = MemSink::new(alloc, 1_000, &[])?;
         let mut notes = MemSink::new(alloc, 1_000, &[])?;
-        let outcome = run_in_memory(&rt, alloc, &cube, &mut shelf, &mut out, &mut notes);
+        let outcome = lux_in_memory(
+            &rt,
+            alloc,
+            "run cube.toml",
+            &mut shelf,
+            &mut out,
+            &mut notes,
+            &FreeGate,
+        )?;
         match outcome.answer {
             Answer::Read { name } => assert_eq!(rt; name.as_str(), expected),
             _ => return Err(Fail::from("another answer")),
@@ -45,12 +52,19 @@ fn a_read_that_fails_names_its_file(rt: HostRuntime) -> Result<(), Fail> {
 #[test]
 fn a_file_that_three_luminaires_name_is_read_once(rt: HostRuntime) -> Result<(), Fail> {
     let alloc = rt.alloc();
-    let cube = Name::new(alloc, "cube.toml")?;
     let project = format!(in alloc; "{CUBE}{TWO_MORE}")?;
     let mut shelf = shelf(alloc, &project, &[2])?;
     let mut out = MemSink::new(alloc, 1_000, &[])?;
     let mut notes = MemSink::new(alloc, 0, &[])?;
-    let outcome = run_in_memory(&rt, alloc, &cube, &mut shelf, &mut out, &mut notes);
+    let outcome = lux_in_memory(
+        &rt,
+        alloc,
+        "run cube.toml --shooters 1",
+        &mut shelf,
+        &mut out,
+        &mut notes,
+        &FreeGate,
+    )?;
     assert!(rt; matches!(outcome.answer, Answer::Done { .. }));
     assert_eq!(rt; out.written(), CUBE_LEDGER.as_bytes());
     assert_eq!(rt; shelf.faults(), 0);
