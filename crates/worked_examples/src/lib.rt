@@ -1,5 +1,5 @@
-//! Worked examples of webs, fakes, words, tournaments, pickers, ledgers, worlds, intervals, the exact solution and
-//! projects.
+//! Worked examples of webs, fakes, words, tournaments, pickers, ledgers, worlds, intervals, the exact solution, verdicts
+//! and projects.
 //!
 //! This crate has tests alone, as `worked_readers`, `worked_rooms`, `worked_banks` and `worked_commands` have theirs.
 //! They stand above all others, so that none of these is proved a second time for its tests; together with the cases of
@@ -23,6 +23,8 @@ mod pickers;
 mod projects;
 #[cfg(test)]
 mod tournaments;
+#[cfg(test)]
+mod verdicts;
 #[cfg(test)]
 mod words;
 #[cfg(test)]

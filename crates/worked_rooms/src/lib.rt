@@ -1,4 +1,5 @@
-//! Worked examples of rooms: directions, intensities and beams, patches, placed luminaires, direct flux and shares.
+//! Worked examples of rooms: directions, intensities and beams, patches, placed luminaires, direct flux, shares and
+//! the light at grids of points.
 //!
 //! This crate has tests alone. The expected values come from calculations by hand or by other programs, and never from
 //! this one.
@@ -6,5 +7,9 @@
 
 #[cfg(test)]
 mod directions;
+#[cfg(test)]
+mod point_light;
+#[cfg(test)]
+mod room_grids;
 #[cfg(test)]
 mod rooms;

@@ -1,0 +1,4 @@
+pub mod Grids
+pub mod GridPoint
+pub mod Validity
+pub mod Shapes
