@@ -30,13 +30,14 @@ fn is_seen(patch: &Patch, point: [i32; 3]) -> bool
     0 < patch.in_front(point) && 0 < height_over(point, patch.centre)
 }
 
-// Whether a point sees the patch, and it is less than 200 half-millimetres away.
-fn is_too_near(point: [i32; 3], patch: &Patch) -> bool
+// Whether a point sees the patch, and it is less than 200 half-millimetres away. Almost no patch is that near, so the
+// distance is tested first; and the point is lent, since to copy it for each patch took longer than the test.
+fn is_too_near(point: &[i32; 3], patch: &Patch) -> bool
     requires patch { IsPatch patch.now }
-    requires point { IsPlace point }
-    ensures { result ≡ is_too_near point patch.now }
+    requires point { IsPlace point.now }
+    ensures { result ≡ is_too_near point.now patch.now }
 {
-    is_seen(patch, point) && squared_distance(patch.centre, point) < LEAST_SQUARE
+    squared_distance(patch.centre, *point) < LEAST_SQUARE && is_seen(patch, *point)
 }
 
 // The first patch that is too near to a point.
@@ -45,5 +46,5 @@ pub(crate) fn first_too_near(point: [i32; 3], patches: &[Patch]) -> Option<usize
     requires patches { All IsPatch patches.now }
     ensures { result ≡ position (is_too_near point) patches.now }
 {
-    patches.iter().position(|patch| is_too_near(point, patch))
+    patches.iter().position(|patch| is_too_near(&point, patch))
 }
