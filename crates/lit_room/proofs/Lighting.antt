@@ -1,10 +1,11 @@
 -- What follows from the tests of a lighting, and how they are met or fail.
-use Rattle.std.proofs.Common.{◌≡◌, ℕ, ◌<◌, List, length, map, Some, None, Option, Ok, Err, refl, sym, ◌∙◌, arith}
-use Rattle.std.specs.Prelude.{All}
+use Rattle.std.proofs.Common.{◌≡◌, ℕ, ◌<◌, ◌≤◌, List, length, map, Some, None, Option, Ok, Err, refl, ap, sym, ◌∙◌, arith}
+use Rattle.std.specs.Prelude.{All, slice_get, option_and_then}
 use Rattle.std.specs.Option.{option_map}
 use Rattle.std.proofs.lemmas.Grind.{common_steps}
 use Rattle.std.proofs.lemmas.List.{length-map}
 use Rattle.std.proofs.lemmas.List.Elements.{All-map}
+use Rattle.compliance.specs.declared.checks.CheckSpec.{CheckSpec}
 use Rattle.direct_flux.specs.DirectFlux.{flux_on, direct_flux, flux_duty}
 use Rattle.direct_flux.specs.declared.faults.DirectFault.{DirectFault}
 use Rattle.direct_flux.specs.declared.faults.DirectFault.TheVariants as direct
@@ -18,6 +19,8 @@ use Rattle.flux_system.specs.System as systems
 use Rattle.flux_system.specs.System.{FluxSystem}
 use Rattle.flux_system.specs.Limits.{limit_duties}
 use Rattle.flux_system.specs.declared.faults.LimitFault.TheVariants as limit
+use Rattle.grids.specs.Grids.{grid_of}
+use Rattle.grids.specs.Validity.{grid_duties}
 use Rattle.photo_web.specs.Web.{PhotometricWeb}
 use Rattle.room_patches.specs.declared.patch.Patch.{Patch}
 use Rattle.room_patches.specs.declared.spec.RoomSpec.{RoomSpec}
@@ -27,7 +30,7 @@ use Rattle.transfer_shares.specs.Shares as shares
 use Rattle.transfer_shares.specs.Shares.{reflectances_of}
 use Rattle.lit_room.specs.declared.faults.LightFault.{LightFault}
 use Rattle.lit_room.specs.declared.faults.LightFault.TheVariants as fault
-use Rattle.lit_room.specs.LitRooms.{Lighting, system_of, flux_of, lighting_duties, lit_room_of}
+use Rattle.lit_room.specs.LitRooms.{Lighting, system_of, flux_of, check_duty, checks_duty, lighting_duties, lit_room_of}
 
 -- a mapped duty is met only where the duty is
 pub met : {F G : Type 0} (f : F → G) (duty : Option F) → option_map f duty ≡ None → duty ≡ None
@@ -47,11 +50,21 @@ module _ (l : Lighting) where
     module _ (placed : option_map fault.Fixture (placing_duty l.project.room l.project.fixtures) ≡ None) where
       pub limits_refused : (f : LightFault) → option_map fault.Limits (first (limit_duties (system_of l) (flux_of l))) ≡ Some f → lit_room_of l ≡ Err f
       unfolding lighting_duties
-      limits_refused f is = judged_err (lighting_duties l) l f (this_met _ _ valid ∙ (this_met _ _ placed ∙ (last_decides _ ∙ is)))
+      limits_refused f is = judged_err (lighting_duties l) l f (this_met _ _ valid ∙ (this_met _ _ placed ∙ this_fails _ _ f is))
 
-      pub accepted : option_map fault.Limits (first (limit_duties (system_of l) (flux_of l))) ≡ None → lit_room_of l ≡ Ok l
-      unfolding lighting_duties
-      accepted is = judged_ok (lighting_duties l) l (this_met _ _ valid ∙ (this_met _ _ placed ∙ (last_decides _ ∙ is)))
+      module _ (limited : option_map fault.Limits (first (limit_duties (system_of l) (flux_of l))) ≡ None) where
+        pub grid_refused : (f : LightFault) → checks_duty l.project.room l.project.checks ≡ Some f → lit_room_of l ≡ Err f
+        unfolding lighting_duties
+        grid_refused f is = judged_err (lighting_duties l) l f (this_met _ _ valid ∙ (this_met _ _ placed ∙ (this_met _ _ limited ∙ (last_decides _ ∙ is))))
+
+        pub accepted : checks_duty l.project.room l.project.checks ≡ None → lit_room_of l ≡ Ok l
+        unfolding lighting_duties
+        accepted is = judged_ok (lighting_duties l) l (this_met _ _ valid ∙ (this_met _ _ placed ∙ (this_met _ _ limited ∙ (last_decides _ ∙ is))))
+
+-- the duty of a number is that of the check that has it
+pub duty_at : (room : RoomSpec) (checks : List CheckSpec) (at : ℕ) (check : CheckSpec) → slice_get checks at ≡ Some check → check_duty room checks at ≡ option_map (fault.Grid at) (first (grid_duties (grid_of room check)))
+unfolding check_duty
+duty_at room checks at check is = ap (option_and_then (λ one. option_map (fault.Grid at) (first (grid_duties (grid_of room one))))) is
 
 -- a lit room's flux is within the limits
 pub within_limits : (l : Lighting) → lit_room_of l ≡ Ok l → first (limit_duties (system_of l) (flux_of l)) ≡ None
@@ -70,6 +83,10 @@ too_much flux amount f is h s = grind (arith, common_steps)
 -- each placed luminaire has a web
 pub webs_in_range : (asked : List FixtureSpec) (fixtures : List Fixture) (files webs : ℕ) → fixtures ≡ map fixture_of asked → All (λ f. f.web < files) asked → webs ≡ files → All (λ fixture. fixture.web < webs) fixtures
 webs_in_range asked fixtures files webs is inside same = rw (is, same) (All-map (λ (fixture : Fixture). fixture.web < files) fixture_of asked inside)
+
+-- as many are placed as are asked for
+pub few_placed : (asked : List FixtureSpec) (fixtures : List Fixture) → fixtures ≡ map fixture_of asked → length asked ≤ 256 → length fixtures ≤ 256
+few_placed asked fixtures is few = omega (arith, few, ap length is, length-map asked fixture_of)
 
 -- a direct flux for each patch
 pub a_flux_each : (room : RoomSpec) (threshold : ℕ) (fixtures : List Fixture) (webs : List PhotometricWeb) → length (direct_flux room fixtures webs) ≡ systems.patches (shares.room_system room threshold)

@@ -1,6 +1,7 @@
 -- The steps in which a lit room is made, each from those before it.
 use Rattle.std.proofs.Common.{◌≡◌, ℕ, List, map, Some, None, Ok, Err, refl}
 use Rattle.std.specs.Option.{option_map}
+use Rattle.compliance.specs.declared.checks.CheckSpec.{CheckSpec}
 use Rattle.direct_flux.specs.DirectFlux.{direct_flux}
 use Rattle.duties.specs.Duties.{first}
 use Rattle.fixtures.specs.declared.fixture.Fixture.{Fixture}
@@ -15,8 +16,8 @@ use Rattle.room_patches.specs.Validity.{room_duties}
 use Rattle.transfer_shares.specs.Shares as shares
 use Rattle.lit_room.specs.declared.faults.LightFault.{LightFault}
 use Rattle.lit_room.specs.declared.faults.LightFault.TheVariants as fault
-use Rattle.lit_room.specs.LitRooms.{Lighting, system_of, flux_of, lit_room_of}
-use Rattle.lit_room.proofs.Lighting.{room_refused, fixture_refused, limits_refused, accepted}
+use Rattle.lit_room.specs.LitRooms.{Lighting, system_of, flux_of, checks_duty, lit_room_of}
+use Rattle.lit_room.proofs.Lighting.{room_refused, fixture_refused, limits_refused, grid_refused, accepted}
 
 module _ (l : Lighting) (spec room : RoomSpec) (asked : List FixtureSpec) (is_spec : spec ≡ l.project.room) (is_room : room ≡ spec) (is_asked : asked ≡ l.project.fixtures) where
   pub no_room : (f : LightFault) → option_map fault.Room (first (room_duties spec)) ≡ Some f → lit_room_of l ≡ Err f
@@ -36,5 +37,9 @@ module _ (l : Lighting) (spec room : RoomSpec) (asked : List FixtureSpec) (is_sp
       pub past_limit : (f : LightFault) → option_map fault.Limits (first (limit_duties system flux)) ≡ Some f → lit_room_of l ≡ Err f
       past_limit f h = limits_refused l (rw is_spec at valid) (rw (is_room, is_spec, is_asked) at placed) f (rw (is_system, is_flux) at h)
 
-      pub all_passed : option_map fault.Limits (first (limit_duties system flux)) ≡ None → lit_room_of l ≡ Ok l
-      all_passed h = accepted l (rw is_spec at valid) (rw (is_room, is_spec, is_asked) at placed) (rw (is_system, is_flux) at h)
+      module _ (checks : List CheckSpec) (are_checks : checks ≡ l.project.checks) (limited : option_map fault.Limits (first (limit_duties system flux)) ≡ None) where
+        pub no_grid : (f : LightFault) → checks_duty room checks ≡ Some f → lit_room_of l ≡ Err f
+        no_grid f h = grid_refused l (rw is_spec at valid) (rw (is_room, is_spec, is_asked) at placed) (rw (is_system, is_flux) at limited) f (rw (is_room, is_spec, are_checks) at h)
+
+        pub all_passed : checks_duty room checks ≡ None → lit_room_of l ≡ Ok l
+        all_passed h = accepted l (rw is_spec at valid) (rw (is_room, is_spec, is_asked) at placed) (rw (is_system, is_flux) at limited) (rw (is_room, is_spec, are_checks) at h)

@@ -1,16 +1,17 @@
 // A lit room.
-ghost use Rattle.std.specs.Prelude.{◌≡◌, ◌≢◌, None, All, length, IfOk, IfErr, Ok, Err};
+ghost use Rattle.std.specs.Prelude.{◌≡◌, ◌≢◌, ◌≤◌, ◌<◌, None, All, length, IfOk, IfErr, Ok, Err};
 ghost use Rattle.duties.specs.Duties.{first};
 ghost use Rattle.fixtures.specs.Fixtures.{IsPlaced};
 ghost use Rattle.flux_system.specs.Limits.{limit_duties};
 ghost use Rattle.flux_system.specs.System.{patches};
-ghost use Rattle.lit_room.specs.LitRooms.{Lighting, fixtures_of, system_of, flux_of, lit_room_of};
+ghost use Rattle.lit_room.specs.LitRooms.{Lighting, fixtures_of, system_of, flux_of, grids_of, lit_room_of};
 ghost use Rattle.lit_room.specs.declared.faults.LightFault.TheVariants as fault;
 
 use crate::LightFault;
-use crate::parts::{light_patches, make_room, make_system, place_all, test_limits};
+use crate::parts::{lay_grids, light_patches, make_room, make_system, place_all, test_limits};
 use fixtures::Fixture;
 use flux_system::System;
+use grids::Grid;
 use photo_web::Web;
 use project_file::Project;
 use room_patches::Room;
@@ -18,8 +19,8 @@ use std::alloc::Global;
 use std::marker::Model;
 use std::thread::Threads;
 
-/// A project with the webs of its files, its room, its placed luminaires, the flux system of the room and the direct flux
-/// of the luminaires. Contracts see it as the project and the webs, from which all else follows.
+/// A project with the webs of its files, its room, its placed luminaires, the flux system of the room, the direct flux of
+/// the luminaires, and the grids of the checks. Contracts see it as the project and the webs, from which all else follows.
 #[derive(Drop)]
 pub struct LitRoom {
     project: Project,
@@ -28,6 +29,7 @@ pub struct LitRoom {
     fixtures: Vec<Fixture>,
     system: System,
     flux: Vec<u64>,
+    grids: Vec<Grid>,
 }
 
 impl Model for LitRoom {
@@ -38,13 +40,13 @@ impl Model for LitRoom {
 
     ghost view = { λ l. record { project = l.project; webs = l.webs.items } };
 
-    ghost invariant = { λ l. HasParts (record { project = l.project; webs = l.webs.items }) l.room l.fixtures.items l.system l.flux.items };
+    ghost invariant = { λ l. HasParts (record { project = l.project; webs = l.webs.items }) l.room l.fixtures.items l.system l.flux.items l.grids.items };
 }
 
 impl LitRoom {
     /// The lit room of a project and of a web for each of its files, in their order. It is refused by the first test that
-    /// fails: of the room, of the luminaires, of the direct flux and the bound of takes. The shares of a large room are made
-    /// in threads.
+    /// fails: of the room, of the luminaires, of the direct flux and the bound of takes, of the grids. The shares of a large
+    /// room are made in threads.
     pub fn new(
         rt: &(impl Threads + Sync),
         alloc: Global,
@@ -75,6 +77,10 @@ impl LitRoom {
             Ok(()) => (),
             Err(fault) => return Err(fault),
         }
+        let grids = match lay_grids(alloc, &room, project.checks()) {
+            Ok(grids) => grids,
+            Err(fault) => return Err(fault),
+        };
         Ok(LitRoom {
             project,
             webs,
@@ -82,6 +88,7 @@ impl LitRoom {
             fixtures,
             system,
             flux,
+            grids,
         })
     }
 
@@ -111,6 +118,8 @@ impl LitRoom {
     pub fn fixtures(&self) -> &[Fixture]
         ensures value { result.now ≡ fixtures_of self.now }
         ensures placed { All IsPlaced result.now }
+        ensures webs { All (λ fixture. fixture.web < length self.now.webs) result.now }
+        ensures few { length result.now ≤ 256 }
     {
         self.fixtures.as_slice()
     }
@@ -129,5 +138,12 @@ impl LitRoom {
         ensures limited { first (limit_duties (system_of self.now) (flux_of self.now)) ≡ None }
     {
         self.flux.as_slice()
+    }
+
+    /// The grids of the project's checks, in their order.
+    pub fn grids(&self) -> &[Grid]
+        ensures { result.now ≡ grids_of self.now }
+    {
+        self.grids.as_slice()
     }
 }

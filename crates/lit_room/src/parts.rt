@@ -3,18 +3,23 @@ ghost use Rattle.std.specs.Prelude.{◌≡◌, ◌≢◌, ◌≤◌, ◌<◌, �
 ghost use Rattle.std.specs.Option.{option_map};
 ghost use Rattle.direct_flux.specs.DirectFlux.{direct_flux};
 ghost use Rattle.duties.specs.Duties.{first, Answers};
+ghost use Rattle.grids.specs.Grids.{grid_of};
+ghost use Rattle.grids.specs.Validity.{grid_duties};
 ghost use Rattle.fixtures.specs.Fixtures.{fixture_of, IsPlaced};
 ghost use Rattle.fixtures.specs.Placing.{placing_duty};
 ghost use Rattle.flux_system.specs.System.{FluxSystem, patches};
 ghost use Rattle.flux_system.specs.Limits.{limit_duties};
 ghost use Rattle.room_patches.specs.Validity.{room_duties};
 ghost use Rattle.transfer_shares.specs.Shares.{room_system};
+ghost use Rattle.lit_room.specs.LitRooms.{checks_duty};
 ghost use Rattle.lit_room.specs.declared.faults.LightFault.TheVariants as fault;
 
 use crate::LightFault;
+use compliance::CheckSpec;
 use direct_flux::{DirectFault, direct};
 use fixtures::{Fixture, FixtureFault, FixtureSpec, place};
 use flux_system::{LimitFault, System};
+use grids::{Grid, GridFault};
 use photo_web::Web;
 use room_patches::{Room, RoomFault, RoomSpec};
 use std::alloc::Global;
@@ -105,5 +110,34 @@ pub(crate) fn test_limits(system: &System, flux: &[u64]) -> Result<(), LightFaul
     match system.takes_bound(flux) {
         Ok(_) => Ok(()),
         Err(fault) => Err(LightFault::Limits(fault)),
+    }
+}
+
+/// The grids of the checks, where each can be laid in the room. The first check that fails a test gives the error.
+pub(crate) fn lay_grids(
+    alloc: Global,
+    room: &Room,
+    checks: &[CheckSpec],
+) -> Result<Vec<Grid>, LightFault>
+    requires { length checks.now ≤ 32 }
+    ensures grids { IfOk result (λ grids. grids.items ≡ map (grid_of room.now) checks.now) }
+    ensures answer { Answers fault.Memory (checks_duty room.now checks.now) result }
+{
+    let mut grids = Vec::with_capacity(alloc, checks.len())?;
+    for (at, check) in checks.iter().enumerate() {
+        grids.push(lay_grid(alloc, room, at as u32, check)?)?;
+    }
+    Ok(grids)
+}
+
+// The grid of a check, where it can be laid in the room.
+fn lay_grid(alloc: Global, room: &Room, at: u32, check: &CheckSpec) -> Result<Grid, LightFault>
+    ensures grid { IfOk result (λ grid. grid ≡ grid_of room.now check.now) }
+    ensures answer { Answers fault.Memory (option_map (fault.Grid at) (first (grid_duties (grid_of room.now check.now)))) result }
+{
+    match Grid::new(alloc, room, check) {
+        Ok(grid) => Ok(grid),
+        Err(GridFault::Memory) => Err(LightFault::Memory),
+        Err(fault) => Err(LightFault::Grid { check: at, fault }),
     }
 }

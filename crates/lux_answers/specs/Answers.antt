@@ -1,7 +1,7 @@
 -- The exit status and the cause of each answer. A new answer adds a line to each table.
 use Rattle.std.specs.Prelude.{ℕ, List}
 use Rattle.lux_answers.specs.declared.answers.Answer.{Answer}
-use Rattle.lux_answers.specs.declared.answers.Answer.TheVariants.{Done, Usage, Read, TooLong, Project, Room, Fixture, System, Photometry, Limits, Write, Memory}
+use Rattle.lux_answers.specs.declared.answers.Answer.TheVariants.{Done, Usage, Read, TooLong, Project, Room, Fixture, Grid, System, Photometry, Limits, Write, Memory}
 use Rattle.lux_answers.specs.declared.answers.Worst.{Worst}
 use Rattle.lux_answers.specs.declared.answers.Worst.TheVariants.{AllPass, SomeFail, SomeUndecided}
 use Rattle.lux_answers.specs.declared.answers.Outcome.{Outcome}
@@ -17,6 +17,7 @@ status_of Usage = 3
 status_of (Project fault) = 4
 status_of (Room fault) = 4
 status_of (Fixture fault) = 4
+status_of (Grid check fault) = 4
 status_of (System fault) = 4
 status_of (Photometry name fault) = 5
 status_of (Read name) = 6
@@ -45,6 +46,7 @@ cause_of Usage = Contents
 cause_of (Project fault) = Contents
 cause_of (Room fault) = Contents
 cause_of (Fixture fault) = Contents
+cause_of (Grid check fault) = Contents
 cause_of (System fault) = Contents
 cause_of (Photometry name fault) = Contents
 cause_of (Read name) = FailedRead name

@@ -7,6 +7,8 @@ use Rattle.fixtures.specs.declared.faults.FixtureFault.{FixtureFault}
 use Rattle.fixtures.specs.declared.faults.FixtureFault.TheVariants as fixture
 use Rattle.flux_system.specs.declared.faults.LimitFault.{LimitFault}
 use Rattle.flux_system.specs.declared.faults.LimitFault.TheVariants.{FluxTooLarge, TooManyTakes}
+use Rattle.grids.specs.declared.faults.GridFault.{GridFault}
+use Rattle.grids.specs.declared.faults.GridFault.TheVariants as grid
 use Rattle.lm63_reader.specs.declared.faults.LmFault.{LmFault}
 use Rattle.lm63_reader.specs.declared.faults.LmFault.TheVariants as lm
 use Rattle.lux_io.specs.Sinks.{SinkState, Wrote, WroteSome}
@@ -21,7 +23,7 @@ use Rattle.system_file.specs.declared.faults.SysFault.TheVariants as system
 use Rattle.lux_answers.specs.declared.answers.Answer.{Answer}
 use Rattle.lux_answers.specs.declared.answers.PhotoFault.{PhotoFault}
 use Rattle.lux_answers.specs.declared.answers.PhotoFault.TheVariants.{Lm, Ldt}
-use Rattle.lux_answers.specs.declared.answers.Answer.TheVariants.{Done, Usage, Read, TooLong, Project, Room, Fixture, System, Photometry, Limits, Write, Memory}
+use Rattle.lux_answers.specs.declared.answers.Answer.TheVariants.{Done, Usage, Read, TooLong, Project, Room, Fixture, Grid, System, Photometry, Limits, Write, Memory}
 
 -- a fault's name in lower case, and its numbers
 abbrev pub system_note : SysFault → List ℕ
@@ -56,6 +58,12 @@ fixture_note (fixture.Outside at) = codes "outside " ++ decimal at
 fixture_note (fixture.Rotation at) = codes "rotation " ++ decimal at
 fixture_note (fixture.Level at) = codes "level " ++ decimal at
 fixture_note fixture.Memory = codes "memory"
+
+abbrev pub grid_note : GridFault → List ℕ
+grid_note grid.Rectangle = codes "rectangle"
+grid_note grid.Counts = codes "counts"
+grid_note (grid.TooNear point patch) = codes "too near " ++ decimal point ++ codes " " ++ decimal patch
+grid_note grid.Memory = codes "memory"
 
 abbrev pub number_note : NumFault → List ℕ
 number_note (number.BadByte at) = codes "bad byte " ++ decimal at
@@ -112,6 +120,7 @@ answer_note (TooLong name) = codes "file too long: " ++ name
 answer_note (Project fault) = codes "project: " ++ project_note fault
 answer_note (Room fault) = codes "room: " ++ room_note fault
 answer_note (Fixture fault) = codes "luminaire: " ++ fixture_note fault
+answer_note (Grid check fault) = codes "check " ++ decimal check ++ codes ": " ++ grid_note fault
 answer_note (System fault) = codes "system: " ++ system_note fault
 answer_note (Photometry name fault) = codes "photometry " ++ name ++ codes ": " ++ photometry_note fault
 answer_note (Limits fault) = codes "limit: " ++ limit_note fault

@@ -7,6 +7,7 @@ use eulumdat_reader::LdtFault;
 use fixtures::FixtureFault;
 use flux_ledger::Ledger;
 use flux_system::LimitFault;
+use grids::GridFault;
 use lm63_reader::LmFault;
 use lux_io::Name;
 use project_file::ProjFault;
@@ -58,6 +59,11 @@ pub enum Answer {
     Room(RoomFault),
     /// A luminaire of the project can't be placed in its room, for this reason.
     Fixture(FixtureFault),
+    /// A check of the project, counted from 0, lays no grid in its room, for this reason.
+    Grid {
+        check: u32,
+        fault: GridFault,
+    },
     /// The file is no system text, for this reason.
     System(SysFault),
     /// This file is no photometry, for this reason.
@@ -100,7 +106,11 @@ impl Answer {
                 Worst::SomeUndecided => 2,
             },
             Answer::Usage => 3,
-            Answer::Project(_) | Answer::Room(_) | Answer::Fixture(_) | Answer::System(_) => 4,
+            Answer::Project(_)
+            | Answer::Room(_)
+            | Answer::Fixture(_)
+            | Answer::Grid { .. }
+            | Answer::System(_) => 4,
             Answer::Photometry { .. } => 5,
             Answer::Read { .. } | Answer::TooLong { .. } => 6,
             Answer::Write => 7,

@@ -1,11 +1,12 @@
 // The notes of faults: each fault's name in lower case, and its numbers.
 ghost use Rattle.std.specs.Prelude.{Some};
-ghost use Rattle.lux_answers.specs.Notes.{project_note, room_note, fixture_note, system_note, number_note, lm_note, ldt_note, photometry_note, limit_note};
+ghost use Rattle.lux_answers.specs.Notes.{project_note, room_note, fixture_note, grid_note, system_note, number_note, lm_note, ldt_note, photometry_note, limit_note};
 
 use crate::PhotoFault;
 use eulumdat_reader::LdtFault;
 use fixtures::FixtureFault;
 use flux_system::LimitFault;
+use grids::GridFault;
 use lm63_reader::LmFault;
 use lux_num::NumFault;
 use project_file::ProjFault;
@@ -87,6 +88,23 @@ impl fmt::Display for FixtureNote {
             FixtureFault::Rotation { at } => write!(f, "rotation {at}"),
             FixtureFault::Level { at } => write!(f, "level {at}"),
             FixtureFault::Memory => write!(f, "memory"),
+        }
+    }
+}
+
+// A refusal of a check's grid in the words of a note.
+#[derive(Clone, Copy)]
+pub(crate) struct GridNote(pub(crate) GridFault);
+
+impl fmt::Display for GridNote {
+    ghost output = { λ note. Some (grid_note note.0) };
+
+    fn fmt<W: fmt::Write>(&self, f: &mut fmt::Formatter<W>) -> fmt::Result {
+        match self.0 {
+            GridFault::Rectangle => write!(f, "rectangle"),
+            GridFault::Counts => write!(f, "counts"),
+            GridFault::TooNear { point, patch } => write!(f, "too near {point} {patch}"),
+            GridFault::Memory => write!(f, "memory"),
         }
     }
 }

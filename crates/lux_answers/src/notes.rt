@@ -4,7 +4,7 @@ ghost use Rattle.lux_answers.specs.Notes.{answer_note, note};
 
 use crate::Answer;
 use crate::fault_notes::{
-    FixtureNote, LimitNote, PhotometryNote, ProjectNote, RoomNote, SystemNote,
+    FixtureNote, GridNote, LimitNote, PhotometryNote, ProjectNote, RoomNote, SystemNote,
 };
 use std::alloc::{AllocError, Global};
 use std::fmt;
@@ -38,6 +38,10 @@ impl fmt::Display for Answer {
             Answer::Fixture(fault) => {
                 let note = FixtureNote(*fault);
                 write!(f, "luminaire: {note}")
+            }
+            Answer::Grid { check, fault } => {
+                let note = GridNote(*fault);
+                write!(f, "check {check}: {note}")
             }
             Answer::System(fault) => {
                 let note = SystemNote(*fault);

@@ -41,6 +41,7 @@ plain_light : (fault : LightFault) → NeedsNothing (cause_of (light_refusal fau
 plain_light (light.Room fault) = tt
 plain_light (light.Fixture fault) = tt
 plain_light (light.Limits fault) = tt
+plain_light (light.Grid check fault) = tt
 plain_light light.Memory = tt
 
 plain_lit_project : (project : Project) → IsPlain IsAny (lit_project project)

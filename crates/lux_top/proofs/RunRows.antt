@@ -100,6 +100,7 @@ module _ (name : List ℕ) (before after : ShelfState) where
     light_reason webs are (light.Room fault) refused = record { lighting = record { project = project; webs = webs }; is_read = record { project = is; webs = are }; refused = refused }
     light_reason webs are (light.Fixture fault) refused = record { lighting = record { project = project; webs = webs }; is_read = record { project = is; webs = are }; refused = refused }
     light_reason webs are (light.Limits fault) refused = record { lighting = record { project = project; webs = webs }; is_read = record { project = is; webs = are }; refused = refused }
+    light_reason webs are (light.Grid check fault) refused = record { lighting = record { project = project; webs = webs }; is_read = record { project = is; webs = are }; refused = refused }
     light_reason webs are light.Memory refused = tt
 
     lit_reason : (refusal : Answer) → Decides (lit_project project) before after (Err refusal) → RunRefusal name before after refusal

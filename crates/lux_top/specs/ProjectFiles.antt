@@ -33,6 +33,7 @@ abbrev pub light_refusal : LightFault → Answer
 light_refusal (light.Room fault) = answer.Room fault
 light_refusal (light.Fixture fault) = answer.Fixture fault
 light_refusal (light.Limits fault) = answer.Limits fault
+light_refusal (light.Grid check fault) = answer.Grid check fault
 light_refusal light.Memory = answer.Memory
 
 -- the lit room of a project and its webs, or the refusal

@@ -33,7 +33,7 @@ pub record IsUnlit (shelf : ShelfState) (name : List ℕ) (fault : LightFault) :
 
 -- why a project is refused: the read of the next file failed; or found too many bytes; the file has no project, with its
 -- first fault; the next photometry file has no photometry, with its first fault; or what was read is no lit room, with the
--- first fault of its room, its luminaires or the limits. Want of memory needs no reason, and no other answer refuses.
+-- first fault of its room, its luminaires, the limits or the checks. Want of memory needs no reason, and no other answer refuses.
 abbrev pub RunRefusal : List ℕ → ShelfState → ShelfState → Answer → Type 0
 RunRefusal name before after (answer.Read file) = (limit : ℕ) × IsNextFile before name file limit × Unread file limit before after (answer.Read file)
 RunRefusal name before after (answer.TooLong file) = (limit : ℕ) × IsNextFile before name file limit × Unread file limit before after (answer.TooLong file)
@@ -42,6 +42,7 @@ RunRefusal name before after (answer.Photometry file fault) = IsNextPhotometry b
 RunRefusal name before after (answer.Room fault) = IsUnlit before name (light.Room fault)
 RunRefusal name before after (answer.Fixture fault) = IsUnlit before name (light.Fixture fault)
 RunRefusal name before after (answer.Limits fault) = IsUnlit before name (light.Limits fault)
+RunRefusal name before after (answer.Grid check fault) = IsUnlit before name (light.Grid check fault)
 RunRefusal name before after answer.Memory = Unit {0}
 RunRefusal name before after _ = ⊥
 

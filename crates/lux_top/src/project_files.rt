@@ -108,6 +108,7 @@ fn light(
         Err(LightFault::Room(fault)) => Err(Answer::Room(fault)),
         Err(LightFault::Fixture(fault)) => Err(Answer::Fixture(fault)),
         Err(LightFault::Limits(fault)) => Err(Answer::Limits(fault)),
+        Err(LightFault::Grid { check, fault }) => Err(Answer::Grid { check, fault }),
         Err(LightFault::Memory) => Err(Answer::Memory),
     }
 }

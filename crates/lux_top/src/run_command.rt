@@ -22,7 +22,7 @@ use std::thread::Threads;
 /// what when; what is promised of it is the same.
 ///
 /// The answers are `Done` with a finished ledger, `Read`, `TooLong`, `Project`, `Photometry`, `Room`, `Fixture`, `Limits`,
-/// `Write` and `Memory`.
+/// `Grid`, `Write` and `Memory`.
 pub fn run<R: Threads + Sync, S: Shelf, K: Sink, N: Sink, G: Gate>(
     rt: &R,
     alloc: Global,

@@ -1,4 +1,5 @@
 pub mod Boundaries
+pub mod ListedChecks
 pub mod Files
 pub mod Keys
 pub mod Lists

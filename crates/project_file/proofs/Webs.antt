@@ -9,14 +9,14 @@ use Rattle.laws.proofs.Ranges.{map-more}
 use Rattle.toml.specs.Data.{Data}
 use Rattle.fixtures.specs.declared.spec.FixtureSpec.{FixtureSpec}
 use Rattle.project_file.specs.Fields.{toml_table}
-use Rattle.project_file.specs.Projects.{luminaire, file_name, file_names, without_repetitions, fixture_spec, fixture_spec_among, fixture_specs_among}
+use Rattle.project_file.specs.Projects.{listed_table, file_name, file_names, without_repetitions, fixture_spec, fixture_spec_among, fixture_specs_among}
 use Rattle.project_file.specs.Shapes.{with_file}
 use Rattle.project_file.proofs.Files.{any_front, any_last, among_more, place_more, among_itself, place_within, place_of_new}
 use Rattle.project_file.proofs.Repetitions.{one_more_name, values_more, values_by_places}
 
 -- the file of luminaire i
 abbrev pub file : List Data → ℕ → List ℕ
-file ls i = file_name (luminaire ls i)
+file ls i = file_name (listed_table ls i)
 
 -- the different files that the first n luminaires name, as they come
 abbrev pub files_named : List Data → ℕ → List (List ℕ)
@@ -25,7 +25,7 @@ files_named ls (suc n) = with_file (files_named ls n) (file ls n)
 
 -- luminaire i over some files
 abbrev pub fixture : List Data → List (List ℕ) → ℕ → FixtureSpec
-fixture ls files i = fixture_spec_among files (luminaire ls i)
+fixture ls files i = fixture_spec_among files (listed_table ls i)
 
 -- the first n luminaires over some files
 abbrev pub fixtures_named : List Data → List (List ℕ) → ℕ → List FixtureSpec
@@ -78,7 +78,7 @@ earlier_fixtures_same ls n = map_same (fixture ls (files_named ls (n + 1))) (fix
     same : (k : ℕ) → k < n → fixture ls (files_named ls (n + 1)) (0 + k) ≡ fixture ls (files_named ls n) (0 + k)
     same k below =
         let place : 0 + k ≡ k = omega arith in
-        rw (place, files_more ls n) (ap (λ (web : ℕ). fixture_spec web (luminaire ls k)) (place_more (bytes_eq (file ls k)) (files_named ls n) (file ls n) (among ls n k below)))
+        rw (place, files_more ls n) (ap (λ (web : ℕ). fixture_spec web (listed_table ls k)) (place_more (bytes_eq (file ls k)) (files_named ls n) (file ls n) (among ls n k below)))
 
 -- one more luminaire and its file
 pub fixtures_more : (ls : List Data) (n : ℕ) → fixtures_named ls (files_named ls (n + 1)) (n + 1) ≡ fixtures_named ls (files_named ls n) n ++ fixture ls (files_named ls (n + 1)) n ∷ []

@@ -1,8 +1,9 @@
 -- The fields of a table of the project file: what their values say, of what kind and in which range they are. A file is the
 -- tree that TOML 1.1 gives of its text.
-use Rattle.std.specs.Prelude.{ℕ, ℤ, pos, ◌==◌, ◌&&◌, nat_le, Bool, true, false, List, [], ◌∷◌, length, codes, Option, Some, is_some, option_and_then, unwrap_or}
+use Rattle.std.specs.Prelude.{ℕ, ℤ, pos, ◌==◌, ◌&&◌, ◌||◌, nat_le, Bool, true, false, List, [], ◌∷◌, length, codes, Option, Some, is_some, option_and_then, unwrap_or}
 use Prim.Native.String.{String}
 use Rattle.std.specs.List.{list_all}
+use Rattle.std.specs.Char.{is_ascii_alphanumeric}
 use Rattle.toml.specs.Data.{Data, Items, no_items, item, Members, no_members, as_integer, as_str, as_array, as_table}
 
 -- the items of an array as a list
@@ -54,6 +55,18 @@ is_number_within least greatest value = is_within least greatest (as_integer val
 -- the text has a number of bytes between two others, both included
 abbrev pub is_text_within : ℕ → ℕ → Data → Bool
 is_text_within least greatest value = nat_le least (length (toml_text (Some value))) && nat_le (length (toml_text (Some value))) greatest
+
+-- a letter or a digit of ASCII, `-` (45) or `_` (95)
+abbrev pub is_label_byte : ℕ → Bool
+is_label_byte byte = is_ascii_alphanumeric byte || (byte == 45) || (byte == 95)
+
+-- a text of 1 to 32 such bytes
+abbrev pub is_label : List ℕ → Bool
+is_label label = nat_le 1 (length label) && nat_le (length label) 32 && list_all is_label_byte label
+
+-- the text is one that can name a check
+abbrev pub is_label_text : Data → Bool
+is_label_text value = is_label (toml_text (Some value))
 
 -- the list has exactly so many elements, each in this range
 abbrev pub has_exactly : ℕ → (Data → Bool) → Data → Bool

@@ -9,11 +9,13 @@ use Rattle.toml.specs.Data.{Data, Members, get_member}
 use Rattle.toml.specs.Parse.{parse_document}
 use Rattle.room_patches.specs.declared.spec.RoomSpec.{RoomSpec}
 use Rattle.fixtures.specs.declared.spec.FixtureSpec.{FixtureSpec}
+use Rattle.compliance.specs.declared.checks.CheckSpec.{CheckSpec}
+use Rattle.compliance.specs.Verdict.{HasLimits}
 use Rattle.project_file.specs.declared.faults.ProjFault.{ProjFault}
 use Rattle.project_file.specs.declared.faults.ProjFault.TheVariants as fault
-use Rattle.project_file.specs.declared.tables.TableAt.TheVariants.{Top, Room, Solver, Luminaire}
+use Rattle.project_file.specs.declared.tables.TableAt.TheVariants.{Top, Room, Solver, Luminaire, Check}
 use Rattle.project_file.specs.Names.{fault_name}
-use Rattle.project_file.specs.Fields.{is_number_within, toml_number, toml_text, toml_table, toml_list}
+use Rattle.project_file.specs.Fields.{is_number_within, is_label, toml_number, toml_text, toml_table, toml_list}
 use Rattle.project_file.specs.Tables.{file_field, place_fields}
 use Rattle.project_file.specs.FieldDuties.{keys_duty, field_duty, fields_duty, table_duty}
 
@@ -27,9 +29,12 @@ solver_in t = toml_table (get_member (codes "solver") t)
 abbrev pub luminaires_in : Members → List Data
 luminaires_in t = toml_list (get_member (codes "luminaire") t)
 
--- luminaire i of a list
-abbrev pub luminaire : List Data → ℕ → Members
-luminaire luminaires i = toml_table (slice_get luminaires i)
+abbrev pub checks_in : Members → List Data
+checks_in t = toml_list (get_member (codes "check") t)
+
+-- table i of a list
+abbrev pub listed_table : List Data → ℕ → Members
+listed_table tables i = toml_table (slice_get tables i)
 
 -- the name of the file that a luminaire's table gives
 abbrev pub file_name : Members → List ℕ
@@ -56,9 +61,13 @@ luminaire_table_duty i files t = first (
 
 -- the duty of luminaire i of a list
 abbrev pub luminaire_duty : List Data → ℕ → Duty ProjFault
-luminaire_duty luminaires i = luminaire_table_duty i (without_repetitions (file_names (take (i + 1) luminaires))) (luminaire luminaires i)
+luminaire_duty luminaires i = luminaire_table_duty i (without_repetitions (file_names (take (i + 1) luminaires))) (listed_table luminaires i)
 
--- all duties of a file: its version, which is 1, the top table, the room, the solver, and each luminaire
+-- the duty of check i of a list
+abbrev pub check_duty : List Data → ℕ → Duty ProjFault
+check_duty checks i = table_duty (Check i) (listed_table checks i)
+
+-- all duties of a file: its version, which is 1, the top table, the room, the solver, each luminaire, and each check
 unfoldable pub project_duties : Members → List (Duty ProjFault)
 project_duties t =
     unless (option_map_or (is_number_within 1 1) (get_member (codes "version") t) false) fault.Version
@@ -66,14 +75,16 @@ project_duties t =
     ∷ table_duty Room (room_in t)
     ∷ table_duty Solver (solver_in t)
     ∷ each (length (luminaires_in t)) (luminaire_duty (luminaires_in t))
+    ∷ each (length (checks_in t)) (check_duty (checks_in t))
     ∷ []
 
--- a room to light, the residual flux at which the solver stops, the files of the photometries, and the luminaires
+-- a room to light, the residual flux at which the solver stops, the files of the photometries, the luminaires, and the checks
 pub record Project : Type 0 where
   pub room : RoomSpec
   pub threshold : ℕ
   pub files : List (List ℕ)
   pub fixtures : List FixtureSpec
+  pub checks : List CheckSpec
 
 -- the room that a table says
 unfoldable pub room_of : Members → RoomSpec
@@ -108,6 +119,26 @@ fixture_spec_among files t = fixture_spec (position_or_len (bytes_eq (file_name 
 abbrev pub fixture_specs_among : List (List ℕ) → List Data → List FixtureSpec
 fixture_specs_among files luminaires = map (λ luminaire. fixture_spec_among files (toml_table (Some luminaire))) luminaires
 
+-- the check that a table says
+unfoldable pub check_spec : Members → CheckSpec
+check_spec t = record {
+  name = toml_text (get_member (codes "name") t);
+  x0 = toml_number (slice_get (toml_list (get_member (codes "x") t)) 0);
+  x1 = toml_number (slice_get (toml_list (get_member (codes "x") t)) 1);
+  y0 = toml_number (slice_get (toml_list (get_member (codes "y") t)) 0);
+  y1 = toml_number (slice_get (toml_list (get_member (codes "y") t)) 1);
+  z = toml_number (get_member (codes "z") t);
+  px = toml_number (slice_get (toml_list (get_member (codes "points") t)) 0);
+  py = toml_number (slice_get (toml_list (get_member (codes "points") t)) 1);
+  maintenance = toml_number (get_member (codes "maintenance") t);
+  average = toml_number (get_member (codes "average") t);
+  uniformity = toml_number (get_member (codes "uniformity") t);
+}
+
+-- the checks that some tables say
+abbrev pub check_specs : List Data → List CheckSpec
+check_specs checks = map (λ check. check_spec (toml_table (Some check))) checks
+
 -- the project that a file says
 abbrev pub project_in : Members → Project
 project_in t =
@@ -117,6 +148,7 @@ project_in t =
       threshold = toml_number (get_member (codes "threshold") (solver_in t));
       files = files;
       fixtures = fixture_specs_among files (luminaires_in t);
+      checks = check_specs (checks_in t);
     }
 
 -- the TOML tree of some bytes, where they are UTF-8 and a TOML document
@@ -132,12 +164,19 @@ project_of_tree (Some t) = judged (project_duties t) (project_in t)
 abbrev pub project_of : List ℕ → Result Project ProjFault
 project_of bytes = project_of_tree (tree_of bytes)
 
--- What each project has: a threshold from 1 to 10^16, at most 256 luminaires, at most 32 files, for each luminaire a file, and
--- for each file a luminaire.
-pub record IsProject (threshold : ℕ) (files : List (List ℕ)) (fixtures : List FixtureSpec) : Type 0 where
+-- What each check has: a name of 1 to 32 letters, digits, `-` and `_`, and numbers by which it can be judged.
+pub record IsCheck (check : CheckSpec) : Type 0 where
+  pub name : is_label check.name ≡ true
+  pub limits : HasLimits check
+
+-- What each project has: a threshold from 1 to 10^16, at most 256 luminaires, at most 32 files, for each luminaire a file, for
+-- each file a luminaire, and at most 32 checks, each of which can be judged.
+pub record IsProject (threshold : ℕ) (files : List (List ℕ)) (fixtures : List FixtureSpec) (checks : List CheckSpec) : Type 0 where
   pub some_threshold : 1 ≤ threshold
   pub low_threshold : threshold ≤ 10 ^ 16
   pub few_fixtures : length fixtures ≤ 256
   pub few_files : length files ≤ 32
   pub webs : All (λ f. f.web < length files) fixtures
   pub used : (j : ℕ) → j < length files → list_any (λ f. f.web == j) fixtures ≡ true
+  pub few_checks : length checks ≤ 32
+  pub are_checks : All IsCheck checks

@@ -2,8 +2,8 @@
 use Rattle.std.specs.Prelude.{◌-◌, ◌^◌, Bool, List, [], ◌∷◌, codes}
 use Rattle.toml.specs.Data.{Data}
 use Rattle.project_file.specs.declared.tables.TableAt.{TableAt}
-use Rattle.project_file.specs.declared.tables.TableAt.TheVariants.{Top, Room, Solver, Luminaire}
-use Rattle.project_file.specs.Fields.{Field, field, optional_field, number, text, table, list, is_number_within, is_text_within, has_exactly, has_at_most, is_any_value}
+use Rattle.project_file.specs.declared.tables.TableAt.TheVariants.{Top, Room, Solver, Luminaire, Check}
+use Rattle.project_file.specs.Fields.{Field, field, optional_field, number, text, table, list, is_number_within, is_text_within, is_label_text, has_exactly, has_at_most, is_any_value}
 
 -- a number of 32 bits
 abbrev pub is_small : Data → Bool
@@ -16,6 +16,7 @@ top_fields =
     ∷ field "room" table is_any_value
     ∷ field "solver" table is_any_value
     ∷ optional_field (codes "luminaire") (list table) (has_at_most 256)
+    ∷ optional_field (codes "check") (list table) (has_at_most 32)
     ∷ []
 
 -- the fields of the room: lengths in millimetres, into how many parts the lengths are cut, and reflectances in per mille
@@ -48,9 +49,25 @@ place_fields =
     ∷ field "level" number is_small
     ∷ []
 
+-- the fields of a check: its name; a level rectangle, from and to on two axes and its height, in millimetres; how many points
+-- stand along each of its sides; the maintenance factor in per mille; and the limits, of the average in lux and of the
+-- uniformity in per mille
+abbrev pub check_fields : List Field
+check_fields =
+    field "name" text is_label_text
+    ∷ field "x" (list number) (has_exactly 2 is_small)
+    ∷ field "y" (list number) (has_exactly 2 is_small)
+    ∷ field "z" number is_small
+    ∷ field "points" (list number) (has_exactly 2 is_small)
+    ∷ field "maintenance" number (is_number_within 1 1000)
+    ∷ field "average" number (is_number_within 0 100000)
+    ∷ field "uniformity" number (is_number_within 0 1000)
+    ∷ []
+
 -- the fields of a table
 abbrev pub fields_of : TableAt → List Field
 fields_of Top = top_fields
 fields_of Room = room_fields
 fields_of Solver = solver_fields
 fields_of (Luminaire i) = file_field ∷ place_fields
+fields_of (Check i) = check_fields

@@ -1,4 +1,4 @@
-//! The project file: a room, its luminaires and the solver's threshold, as a TOML document.
+//! The project file: a room, its luminaires, the solver's threshold, and the checks of the light, as a TOML document.
 //!
 //! [`read_project`] reads it. What the bytes of a file stand for is defined in `specs/Projects.antt` over the tree that
 //! the crate `toml` gives of them: a [`Project`], or the first of the file's duties that isn't met, in the order of its
@@ -6,6 +6,7 @@
 //! hold, `specs/FieldDuties.antt` the duties of a field and of a table, and `specs/Names.antt` how a fault names a field.
 #![tactic(auto)]
 
+mod checks;
 mod faults;
 mod luminaires;
 mod project;

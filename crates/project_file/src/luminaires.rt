@@ -11,15 +11,15 @@ ghost use Rattle.project_file.specs.Names.{fault_name};
 ghost use Rattle.project_file.specs.Fields.{toml_items, table as tables, is_kind};
 ghost use Rattle.project_file.specs.Tables.{file_field, place_fields};
 ghost use Rattle.project_file.specs.FieldDuties.{keys_duty, field_duty, fields_duty};
-ghost use Rattle.project_file.specs.Projects.{luminaire, file_name, file_names, without_repetitions, fixture_spec, fixture_spec_among, fixture_specs_among, luminaire_table_duty, luminaire_duty};
+ghost use Rattle.project_file.specs.Projects.{file_name, file_names, without_repetitions, fixture_spec, fixture_spec_among, fixture_specs_among, luminaire_table_duty, luminaire_duty};
 ghost use Rattle.project_file.specs.Shapes.{texts, are_names, with_file};
 
 use crate::ProjFault;
-use crate::sections::Section;
+use crate::sections::{Section, copy_name, listed_table};
 use crate::tables::TableAt;
 use fixtures::FixtureSpec;
 use indexmap::IndexSet;
-use lux_io::{Name, NameFault};
+use lux_io::Name;
 use std::alloc::Global;
 use toml::{Table, Value};
 
@@ -43,23 +43,11 @@ pub fn read_luminaires(
     let mut files = IndexSet::new(alloc);
     let mut fixtures = Vec::with_capacity(alloc, items.len())?;
     for number in 0..items.len() {
-        let table = luminaire_table(items, number);
+        let table = listed_table(items, number);
         fixtures.push(read_luminaire(alloc, number, table, &mut files)?)?;
     }
     let names = copy_names(alloc, &files)?;
     Ok((names, fixtures))
-}
-
-// The table of a luminaire.
-fn luminaire_table(items: &[Value], number: usize) -> &Table
-    requires tables { list_all (is_kind tables) (toml_items (items_view items.now)) ≡ true }
-    requires within { number < length items.now }
-    ensures { table_view result.now ≡ luminaire (toml_items (items_view items.now)) number }
-{
-    match items[number].as_table() {
-        Some(table) => table,
-        None => unreachable!(),
-    }
 }
 
 // The luminaire of a table, whose file is then one of the files.
@@ -148,17 +136,4 @@ fn copy_names(alloc: Global, files: &IndexSet<&str>) -> Result<Vec<Name>, ProjFa
         names.push(copy_name(alloc, file)?)?;
     }
     Ok(names)
-}
-
-// The name of a file.
-fn copy_name(alloc: Global, file: &str) -> Result<Name, ProjFault>
-    requires { are_names (file.now ∷ []) ≡ true }
-    ensures memory { IfErr result (λ f. f ≡ fault.Memory) }
-    ensures value { IfOk result (λ name. name ≡ file.now) }
-{
-    match Name::new(alloc, file) {
-        Ok(name) => Ok(name),
-        Err(NameFault::Memory) => Err(ProjFault::Memory),
-        Err(NameFault::Length) => unreachable!(),
-    }
 }

@@ -1,21 +1,23 @@
 // A project.
 ghost use Rattle.std.specs.Prelude.{◌≡◌, ◌≤◌, ◌<◌, ◌^◌, length};
 ghost use Rattle.std.specs.List.{All};
-ghost use Rattle.project_file.specs.Projects.{IsProject};
+ghost use Rattle.project_file.specs.Projects.{IsProject, IsCheck};
 
+use compliance::CheckSpec;
 use fixtures::FixtureSpec;
 use lux_io::Name;
 use room_patches::RoomSpec;
 use std::marker::Model;
 
-/// A room to light, the residual flux at which the solver stops, the files of the photometries, and the luminaires, each
-/// of which has the number of its file as its web. Contracts see it as the record of these.
+/// A room to light, the residual flux at which the solver stops, the files of the photometries, the luminaires, each of
+/// which has the number of its file as its web, and the checks of its light. Contracts see it as the record of these.
 #[derive(Debug, Drop)]
 pub struct Project {
     room: RoomSpec,
     threshold: u64,
     files: Vec<Name>,
     fixtures: Vec<FixtureSpec>,
+    checks: Vec<CheckSpec>,
 }
 
 impl Model for Project {
@@ -23,9 +25,9 @@ impl Model for Project {
 
     ghost Value = { Project };
 
-    ghost view = { λ p. record { room = p.room; threshold = p.threshold; files = p.files.items; fixtures = p.fixtures.items } };
+    ghost view = { λ p. record { room = p.room; threshold = p.threshold; files = p.files.items; fixtures = p.fixtures.items; checks = p.checks.items } };
 
-    ghost invariant = { λ p. IsProject p.threshold p.files.items p.fixtures.items };
+    ghost invariant = { λ p. IsProject p.threshold p.files.items p.fixtures.items p.checks.items };
 }
 
 impl Project {
@@ -35,15 +37,17 @@ impl Project {
         threshold: u64,
         files: Vec<Name>,
         fixtures: Vec<FixtureSpec>,
+        checks: Vec<CheckSpec>,
     ) -> Project
-        requires { IsProject threshold files.items fixtures.items }
-        ensures { result ≡ record { room = room; threshold = threshold; files = files.items; fixtures = fixtures.items } }
+        requires { IsProject threshold files.items fixtures.items checks.items }
+        ensures { result ≡ record { room = room; threshold = threshold; files = files.items; fixtures = fixtures.items; checks = checks.items } }
     {
         Project {
             room,
             threshold,
             files,
             fixtures,
+            checks,
         }
     }
 
@@ -78,5 +82,14 @@ impl Project {
         ensures webs { All (λ f. f.web < length self.now.files) result.now }
     {
         self.fixtures.as_slice()
+    }
+
+    /// The checks: what the light on rectangles has to reach.
+    pub fn checks(&self) -> &[CheckSpec]
+        ensures value { result.now ≡ self.now.checks }
+        ensures few { length result.now ≤ 32 }
+        ensures checks { All IsCheck result.now }
+    {
+        self.checks.as_slice()
     }
 }

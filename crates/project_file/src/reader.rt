@@ -10,8 +10,9 @@ ghost use Rattle.project_file.specs.declared.tables.TableAt.TheVariants as table
 ghost use Rattle.project_file.specs.Fields.{toml_items, is_kind, table as tables, is_number_within, toml_number};
 ghost use Rattle.project_file.specs.Tables.{top_fields, room_fields};
 ghost use Rattle.project_file.specs.FieldDuties.{fields_duty, table_duty};
-ghost use Rattle.project_file.specs.Projects.{tree_of, project_duties, project_in, room_in, solver_in, luminaires_in, room_of, project_of, IsProject};
+ghost use Rattle.project_file.specs.Projects.{tree_of, project_duties, project_in, room_in, solver_in, luminaires_in, checks_in, room_of, project_of, IsProject};
 
+use crate::checks::read_checks;
 use crate::luminaires::read_luminaires;
 use crate::sections::Section;
 use crate::tables::TableAt;
@@ -26,12 +27,16 @@ const MOST_THRESHOLD: u64 = 10_000_000_000_000_000;
 /// The most luminaires.
 const MOST_LUMINAIRES: usize = 256;
 
+/// The most checks.
+const MOST_CHECKS: usize = 32;
+
 // What the top table says.
 #[derive(Clone, Copy)]
 struct Top<'a> {
     room: &'a Table,
     solver: &'a Table,
     luminaires: &'a [Value],
+    checks: &'a [Value],
 }
 
 /// The project that the bytes of a file stand for. The first of the file's duties that isn't met gives the error; `Memory`
@@ -40,7 +45,7 @@ pub fn read_project(alloc: Global, text: &[u8]) -> Result<Project, ProjFault>
     requires { length text.now < 2 ^ 31 }
     ensures ok { IfOk result (λ project. project_of text.now ≡ Ok project) }
     ensures fault { IfErr result (λ f. f ≢ Memory → project_of text.now ≡ Err f) }
-    ensures fits { IfOk result (λ project. IsProject project.threshold project.files project.fixtures) }
+    ensures fits { IfOk result (λ project. IsProject project.threshold project.files project.fixtures project.checks) }
 {
     let table = read_tree(alloc, text)?;
     read_table(alloc, &table)
@@ -67,13 +72,14 @@ fn read_tree(alloc: Global, text: &[u8]) -> Result<Table, ProjFault>
 fn read_table(alloc: Global, table: &Table) -> Result<Project, ProjFault>
     ensures answer { Answers Memory (first (project_duties (table_view table.now))) result }
     ensures value { IfOk result (λ project. project ≡ project_in (table_view table.now)) }
-    ensures fits { IfOk result (λ project. IsProject project.threshold project.files project.fixtures) }
+    ensures fits { IfOk result (λ project. IsProject project.threshold project.files project.fixtures project.checks) }
 {
     let top = read_top(alloc, table)?;
     let room = read_room(alloc, top.room)?;
     let threshold = read_threshold(alloc, top.solver)?;
     let (files, fixtures) = read_luminaires(alloc, top.luminaires)?;
-    Ok(Project::new(room, threshold, files, fixtures))
+    let checks = read_checks(alloc, top.checks)?;
+    Ok(Project::new(room, threshold, files, fixtures, checks))
 }
 
 // The version, and what the top table says.
@@ -85,6 +91,9 @@ fn read_top(alloc: Global, table: &Table) -> Result<Top, ProjFault>
     ensures luminaires { IfOk result (λ top. toml_items (items_view top.luminaires.now) ≡ luminaires_in (table_view table.now)) }
     ensures few { IfOk result (λ top. length top.luminaires.now ≤ 256) }
     ensures tables { IfOk result (λ top. list_all (is_kind tables) (toml_items (items_view top.luminaires.now)) ≡ true) }
+    ensures checks { IfOk result (λ top. toml_items (items_view top.checks.now) ≡ checks_in (table_view table.now)) }
+    ensures few_checks { IfOk result (λ top. length top.checks.now ≤ 32) }
+    ensures check_tables { IfOk result (λ top. list_all (is_kind tables) (toml_items (items_view top.checks.now)) ≡ true) }
 {
     let top = Section {
         alloc,
@@ -108,14 +117,19 @@ fn read_top_fields<'a>(top: &Section<'a>) -> Result<Top<'a>, ProjFault>
     ensures luminaires { IfOk result (λ r. toml_items (items_view r.luminaires.now) ≡ luminaires_in (table_view top.now.table.now)) }
     ensures few { IfOk result (λ r. length r.luminaires.now ≤ 256) }
     ensures tables { IfOk result (λ r. list_all (is_kind tables) (toml_items (items_view r.luminaires.now)) ≡ true) }
+    ensures checks { IfOk result (λ r. toml_items (items_view r.checks.now) ≡ checks_in (table_view top.now.table.now)) }
+    ensures few_checks { IfOk result (λ r. length r.checks.now ≤ 32) }
+    ensures check_tables { IfOk result (λ r. list_all (is_kind tables) (toml_items (items_view r.checks.now)) ≡ true) }
 {
     let room = top.table("room")?;
     let solver = top.table("solver")?;
     let luminaires = top.tables("luminaire", MOST_LUMINAIRES)?;
+    let checks = top.tables("check", MOST_CHECKS)?;
     Ok(Top {
         room,
         solver,
         luminaires,
+        checks,
     })
 }
 

@@ -4,17 +4,18 @@ ghost use Rattle.std.specs.List.{list_all, list_any, find};
 ghost use Rattle.std.specs.BTreeMap as tree;
 ghost use Rattle.std.specs.String.{string_cmp};
 ghost use Rattle.std.specs.Str.{bytes_eq};
-ghost use Rattle.std.specs.Fmt.{decimal};
 ghost use Rattle.std.specs.Option.{option_map_or};
 ghost use Rattle.duties.specs.Duties.{Answers};
 ghost use Rattle.toml.specs.Data.{get_member, as_integer, as_table};
 ghost use Rattle.toml.specs.View.{view, items_view, table_view};
 ghost use Rattle.lux_io.specs.Names.{IsName};
 ghost use Rattle.project_file.specs.declared.faults.ProjFault.TheVariants as fault;
-ghost use Rattle.project_file.specs.Names.{prefix, fitting_front, or_quotation_marks, fault_name};
+ghost use Rattle.project_file.specs.Names.{numbered, prefix, fitting_front, or_quotation_marks, fault_name};
 ghost use Rattle.project_file.specs.FieldDuties.{member_keys, first_key, keys_duty, field_duty};
 ghost use Rattle.project_file.specs.Tables.{fields_of};
-ghost use Rattle.project_file.specs.Fields.{toml_items, required_field, optional_field, number as numbers, text as texts, table as tables, list, is_number_within, is_text_within, has_exactly, has_at_most, is_any_value, toml_number, toml_text, toml_table, toml_list, is_kind};
+ghost use Rattle.project_file.specs.Projects.{listed_table};
+ghost use Rattle.project_file.specs.Shapes.{are_names};
+ghost use Rattle.project_file.specs.Fields.{toml_items, required_field, optional_field, number as numbers, text as texts, table as tables, list, is_number_within, is_text_within, is_label_byte, is_label, is_label_text, has_exactly, has_at_most, is_any_value, toml_number, toml_text, toml_table, toml_list, is_kind};
 
 use crate::ProjFault;
 use crate::tables::TableAt;
@@ -30,11 +31,36 @@ pub struct Section<'a> {
     pub table: &'a Table,
 }
 
-// The path to a field of a luminaire.
-fn luminaire_path(alloc: Global, number: usize, key: &str) -> Result<String, AllocError>
-    ensures { IfOk result (λ path. string_bytes path ≡ codes "luminaire." ++ decimal number ++ codes "." ++ key.now) }
+/// The table at a place of a list of tables.
+pub fn listed_table(items: &[Value], number: usize) -> &Table
+    requires tables { list_all (is_kind tables) (toml_items (items_view items.now)) ≡ true }
+    requires within { number < length items.now }
+    ensures { table_view result.now ≡ listed_table (toml_items (items_view items.now)) number }
 {
-    format!(in alloc; "luminaire.{number}.{key}")
+    match items[number].as_table() {
+        Some(table) => table,
+        None => unreachable!(),
+    }
+}
+
+/// The name that a text is.
+pub fn copy_name(alloc: Global, text: &str) -> Result<Name, ProjFault>
+    requires { are_names (text.now ∷ []) ≡ true }
+    ensures memory { IfErr result (λ f. f ≡ fault.Memory) }
+    ensures value { IfOk result (λ name. name ≡ text.now) }
+{
+    match Name::new(alloc, text) {
+        Ok(name) => Ok(name),
+        Err(NameFault::Memory) => Err(ProjFault::Memory),
+        Err(NameFault::Length) => unreachable!(),
+    }
+}
+
+// The path to a field of an element of a list.
+fn numbered_path(alloc: Global, list: &str, number: usize, key: &str) -> Result<String, AllocError>
+    ensures { IfOk result (λ path. string_bytes path ≡ numbered list.now number ++ key.now) }
+{
+    format!(in alloc; "{list}.{number}.{key}")
 }
 
 // The name that a path is written as.
@@ -75,7 +101,8 @@ impl<'a> Section<'a> {
             TableAt::Top => String::from_str(self.alloc, key),
             TableAt::Room => format!(in self.alloc; "room.{key}"),
             TableAt::Solver => format!(in self.alloc; "solver.{key}"),
-            TableAt::Luminaire(number) => luminaire_path(self.alloc, number, key),
+            TableAt::Luminaire(number) => numbered_path(self.alloc, "luminaire", number, key),
+            TableAt::Check(number) => numbered_path(self.alloc, "check", number, key),
         }
     }
 
@@ -185,7 +212,17 @@ impl<'a> Section<'a> {
         ensures answer { Answers fault.Memory (field_duty self.now.table_at (table_view self.now.table.now) (required_field key.now numbers (is_number_within 0 (2 ^ 32 - 1)))) result }
         ensures value { IfOk result (λ n. n ≡ toml_number (get_member key.now (table_view self.now.table.now))) }
     {
-        Ok(self.number(key, 0, 4_294_967_295)? as u32)
+        self.small_within(key, 0, u32::MAX)
+    }
+
+    /// The number of a field, between two of 32 bits, both included.
+    pub fn small_within(&self, key: &str, least: u32, greatest: u32) -> Result<u32, ProjFault>
+        ensures answer { Answers fault.Memory (field_duty self.now.table_at (table_view self.now.table.now) (required_field key.now numbers (is_number_within least greatest))) result }
+        ensures value { IfOk result (λ n. n ≡ toml_number (get_member key.now (table_view self.now.table.now))) }
+        ensures least { IfOk result (λ n. least ≤ n) }
+        ensures greatest { IfOk result (λ n. n ≤ greatest) }
+    {
+        Ok(self.number(key, least.into(), greatest.into())? as u32)
     }
 
     /// The text of a field, of 1 to 255 bytes.
@@ -207,6 +244,25 @@ impl<'a> Section<'a> {
         Ok(text)
     }
 
+    /// The text of a field that can name a check.
+    #[tactic(auto, unfolding(crate::specs::FieldDuties::field_duty, duties::specs::Duties::unless, duties::specs::Duties::first))]
+    pub fn label(&self, key: &str) -> Result<&'a str, ProjFault>
+        ensures answer { Answers fault.Memory (field_duty self.now.table_at (table_view self.now.table.now) (required_field key.now texts is_label_text)) result }
+        ensures value { IfOk result (λ text. text.now ≡ toml_text (get_member key.now (table_view self.now.table.now))) }
+        ensures label { IfOk result (λ text. is_label text.now ≡ true) }
+    {
+        let Some(value) = self.get(key) else {
+            return Err(self.missing_fault(key));
+        };
+        let Some(text) = value.as_str() else {
+            return Err(self.kind_fault(key));
+        };
+        if !is_label(text) {
+            return Err(self.range_fault(key));
+        }
+        Ok(text)
+    }
+
     /// The table of a field.
     #[tactic(auto, unfolding(crate::specs::FieldDuties::field_duty, duties::specs::Duties::unless, duties::specs::Duties::first))]
     pub fn table(&self, key: &str) -> Result<&'a Table, ProjFault>
@@ -219,6 +275,28 @@ impl<'a> Section<'a> {
         match value.as_table() {
             Some(table) => Ok(table),
             None => Err(self.kind_fault(key)),
+        }
+    }
+
+    /// The two numbers of a field, each in 32 bits.
+    #[tactic(auto, using(crate::proofs::Lists::lists), unfolding(crate::specs::FieldDuties::field_duty, duties::specs::Duties::unless, duties::specs::Duties::first))]
+    pub fn two(&self, key: &str) -> Result<(u32, u32), ProjFault>
+        ensures answer { Answers fault.Memory (field_duty self.now.table_at (table_view self.now.table.now) (required_field key.now (list numbers) (has_exactly 2 (is_number_within 0 (2 ^ 32 - 1))))) result }
+        ensures first { IfOk result (λ n. n.0 ≡ toml_number (slice_get (toml_list (get_member key.now (table_view self.now.table.now))) 0)) }
+        ensures second { IfOk result (λ n. n.1 ≡ toml_number (slice_get (toml_list (get_member key.now (table_view self.now.table.now))) 1)) }
+    {
+        let Some(value) = self.get(key) else {
+            return Err(self.missing_fault(key));
+        };
+        let Some(pair) = value.as_array() else {
+            return Err(self.kind_fault(key));
+        };
+        if !all_numbers(pair) {
+            return Err(self.kind_fault(key));
+        }
+        match two_of(pair) {
+            Some(two) => Ok(two),
+            None => Err(self.range_fault(key)),
         }
     }
 
@@ -269,6 +347,26 @@ impl<'a> Section<'a> {
     }
 }
 
+// Whether a text can name a check.
+#[tactic(auto, using(std::proofs::lemmas::Bool::Decides::nat_tests))]
+fn is_label(text: &str) -> bool
+    ensures { result ≡ is_label text.now }
+{
+    1 <= text.len() && text.len() <= 32 && are_label_bytes(text.as_bytes())
+}
+
+fn are_label_bytes(bytes: &[u8]) -> bool
+    ensures { result ≡ list_all is_label_byte bytes.now }
+{
+    bytes.iter().all(|byte| is_label_byte(*byte))
+}
+
+fn is_label_byte(byte: u8) -> bool
+    ensures { result ≡ is_label_byte byte }
+{
+    byte.is_ascii_alphanumeric() || byte == b'-' || byte == b'_'
+}
+
 // Whether each value is a number.
 fn all_numbers(items: &[Value]) -> bool
     ensures { result ≡ list_all (λ item. is_some (as_integer (view item))) items.now }
@@ -281,6 +379,22 @@ fn all_tables(items: &[Value]) -> bool
     ensures { result ≡ list_all (λ item. is_some (as_table (view item))) items.now }
 {
     items.iter().all(|item| item.is_table())
+}
+
+// The two numbers of a list, where it has two, each of 32 bits.
+#[tactic(auto, using(crate::proofs::Lists::lists, std::proofs::lemmas::Bool::Decides::nat_tests))]
+fn two_of(items: &[Value]) -> Option<(u32, u32)>
+    ensures none { IfNone result (((length (toml_items (items_view items.now)) == 2) && list_all (is_number_within 0 (2 ^ 32 - 1)) (toml_items (items_view items.now))) ≡ false) }
+    ensures some { IfSome result (λ _. ((length (toml_items (items_view items.now)) == 2) && list_all (is_number_within 0 (2 ^ 32 - 1)) (toml_items (items_view items.now))) ≡ true) }
+    ensures first { IfSome result (λ n. n.0 ≡ toml_number (slice_get (toml_items (items_view items.now)) 0)) }
+    ensures second { IfSome result (λ n. n.1 ≡ toml_number (slice_get (toml_items (items_view items.now)) 1)) }
+{
+    if items.len() != 2 {
+        return None;
+    }
+    let first = small_of(&items[0])?;
+    let second = small_of(&items[1])?;
+    Some((first, second))
 }
 
 // The three numbers of a list, where it has three, each of 32 bits.

@@ -2,9 +2,9 @@
 ghost use Rattle.std.specs.Prelude.{◌≡◌};
 ghost use Rattle.std.specs.List.{list_any};
 ghost use Rattle.std.specs.Str.{bytes_eq};
-ghost use Rattle.project_file.specs.Tables.{fields_of, room_fields};
+ghost use Rattle.project_file.specs.Tables.{fields_of, room_fields, check_fields};
 
-/// A table of a project file; luminaires are numbered from 0.
+/// A table of a project file; luminaires and checks are numbered from 0.
 #[derive(Clone, Copy, Debug)]
 pub enum TableAt {
     /// The table of the whole file.
@@ -15,6 +15,8 @@ pub enum TableAt {
     Solver,
     /// One of the tables `luminaire`.
     Luminaire(usize),
+    /// One of the tables `check`.
+    Check(usize),
 }
 
 impl TableAt {
@@ -23,10 +25,11 @@ impl TableAt {
         ensures { result ≡ list_any (λ f. bytes_eq name.now f.name) (fields_of self) }
     {
         match self {
-            TableAt::Top => is_any(name, &["version", "room", "solver", "luminaire"]),
+            TableAt::Top => is_any(name, &["version", "room", "solver", "luminaire", "check"]),
             TableAt::Room => is_room_field(name),
             TableAt::Solver => name == "threshold",
             TableAt::Luminaire(_) => is_any(name, &["file", "x", "y", "z", "rotation", "level"]),
+            TableAt::Check(_) => is_check_field(name),
         }
     }
 }
@@ -36,6 +39,22 @@ fn is_room_field(name: &str) -> bool
 {
     let names = [
         "width", "depth", "height", "counts", "floor", "ceiling", "walls",
+    ];
+    is_any(name, &names)
+}
+
+fn is_check_field(name: &str) -> bool
+    ensures { result ≡ list_any (λ f. bytes_eq name.now f.name) check_fields }
+{
+    let names = [
+        "name",
+        "x",
+        "y",
+        "z",
+        "points",
+        "maintenance",
+        "average",
+        "uniformity",
     ];
     is_any(name, &names)
 }

@@ -2,7 +2,7 @@
 use compliance::Verdict::{Fail, Pass, Undecided};
 use compliance::{CheckSpec, Judged, Verdict, judge};
 use lux_io::Name;
-use std::alloc::Global;
+use std::alloc::{AllocError, Global};
 use std::test::Fail as Failure;
 
 const LUX: u128 = 1_000_000_000;
@@ -47,13 +47,15 @@ const WIDE: [(u128, u128); 3] = [(100, 200), (100, 200), (100, 200)];
 
 const TWO_LEASTS: [(u128, u128); 3] = [(1, 9), (2, 4), (3, 3)];
 
-const AS_BRIGHT_AS_CAN_BE: [(u128, u128); 1_024] = [(MOST, MOST); 1_024];
-
 // As many points as there can be, of which the last is the darkest.
-fn many() -> [(u128, u128); 1_024] {
-    let mut points = [(7 * LUX, 9 * LUX); 1_024];
-    points[1_023] = (3 * LUX, 4 * LUX);
-    points
+fn many(alloc: Global) -> Result<Vec<(u128, u128)>, AllocError> {
+    let mut points = Vec::from_elem(alloc, (7 * LUX, 9 * LUX), 1_023)?;
+    points.push((3 * LUX, 4 * LUX))?;
+    Ok(points)
+}
+
+fn as_bright_as_can_be(alloc: Global) -> Result<Vec<(u128, u128)>, AllocError> {
+    Vec::from_elem(alloc, (MOST, MOST), 1_024)
 }
 
 // What a check of these numbers is answered: its maintenance factor, its average and its uniformity.
@@ -92,7 +94,8 @@ fn judged(
 #[test]
 fn averages_are_rounded_outwards(rt: HostRuntime) -> Result<(), Failure> {
     let alloc = rt.alloc();
-    let many = many();
+    let many = many(alloc)?;
+    let brightest = as_bright_as_can_be(alloc)?;
     let rows: [(u32, u32, &[(u128, u128)], (u128, u128), Verdict); 20] = [
         (1_000, 500, &BRIGHT, (500_000, 510_000), Pass),
         (1_000, 501, &BRIGHT, (500_000, 510_000), Undecided),
@@ -116,7 +119,7 @@ fn averages_are_rounded_outwards(rt: HostRuntime) -> Result<(), Failure> {
         (
             1_000,
             100_000,
-            &AS_BRIGHT_AS_CAN_BE,
+            &brightest,
             (MOST / 1_000_000, MOST / 1_000_000),
             Pass,
         ),
@@ -132,7 +135,8 @@ fn averages_are_rounded_outwards(rt: HostRuntime) -> Result<(), Failure> {
 #[test]
 fn uniformities_are_rounded_outwards(rt: HostRuntime) -> Result<(), Failure> {
     let alloc = rt.alloc();
-    let many = many();
+    let many = many(alloc)?;
+    let brightest = as_bright_as_can_be(alloc)?;
     let rows: [(u32, &[(u128, u128)], (u32, u32), Verdict); 24] = [
         (400, &BRIGHT, (980, 1_000), Pass),
         (400, &DIM, (981, 1_000), Pass),
@@ -157,7 +161,7 @@ fn uniformities_are_rounded_outwards(rt: HostRuntime) -> Result<(), Failure> {
         (501, &WIDE, (500, 1_000), Undecided),
         (1_000, &TWO_LEASTS, (187, 1_000), Undecided),
         (334, &many, (333, 572), Undecided),
-        (1_000, &AS_BRIGHT_AS_CAN_BE, (1_000, 1_000), Pass),
+        (1_000, &brightest, (1_000, 1_000), Pass),
     ];
     for (limit, points, ends, verdict) in rows {
         let answer = judged(alloc, (1_000, 0, limit), points)?;

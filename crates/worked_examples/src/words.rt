@@ -1,14 +1,40 @@
 // Words of a command line with options.
 use lux_words::{Options, has_option, operands, setting};
+use std::alloc::{AllocError, Global};
+use std::process::Abort;
 use std::test::Fail;
 
-#[test]
-fn operands_are_told_from_options_and_their_values(rt: HostRuntime) -> Result<(), Fail> {
-    let alloc = rt.alloc();
+fn words_of(alloc: Global, given: &[&str]) -> Result<Vec<String>, AllocError> {
+    let mut words = Vec::new(alloc);
+    for word in given {
+        words.push(String::from_str(alloc, *word)?)?;
+    }
+    Ok(words)
+}
+
+// The places of the operands, where the words have that form.
+fn assert_operands(
+    rt: &impl Abort,
+    alloc: Global,
+    words: &[String],
+    expected: Option<&[usize]>,
+) -> Result<(), Fail> {
     let options = Options {
         flags: &["--csv"],
         settings: &["--shooters"],
     };
+    let places = operands(alloc, words, "run", &options)?;
+    match (places, expected) {
+        (Some(places), Some(expected)) => assert_eq!(rt; places.as_slice(), expected),
+        (None, None) => (),
+        _ => return Err(Fail::from("another answer")),
+    }
+    Ok(())
+}
+
+#[test]
+fn operands_are_told_from_options_and_their_values(rt: HostRuntime) -> Result<(), Fail> {
+    let alloc = rt.alloc();
     let rows: [(&[&str], Option<&[usize]>, Option<&str>); 10] = [
         (&["run", "p"], Some(&[1]), None),
         (
@@ -26,16 +52,8 @@ fn operands_are_told_from_options_and_their_values(rt: HostRuntime) -> Result<()
         (&["solve", "p"], None, None),
     ];
     for (given, expected, value) in rows {
-        let mut words = Vec::new(alloc);
-        for word in given {
-            words.push(String::from_str(alloc, *word)?)?;
-        }
-        let places = operands(alloc, &words, "run", &options)?;
-        match (places, expected) {
-            (Some(places), Some(expected)) => assert_eq!(rt; places.as_slice(), expected),
-            (None, None) => (),
-            _ => return Err(Fail::from("another answer")),
-        }
+        let words = words_of(alloc, given)?;
+        assert_operands(&rt, alloc, &words, expected)?;
         assert_eq!(rt; setting(&words, "--shooters"), value);
         assert!(rt; !has_option(&words, "--sharpen"));
     }

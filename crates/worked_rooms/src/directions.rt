@@ -1,11 +1,17 @@
 // Angles, bearings, intensities between the stored directions, and beams of placed luminaires.
+ghost use Rattle.std.specs.Prelude.{All};
+ghost use Rattle.fixtures.specs.Fixtures.{IsPlaced};
+
+use crate::sample_luminaires::{sided, web_of};
+use crate::sample_rooms::room_of;
 use direct_flux::beam;
 use direction_table::{angle, bearing};
-use fixtures::{FixtureSpec, place};
+use fixtures::{Fixture, FixtureSpec, place};
 use intensity::intensity;
 use photo_web::Web;
-use room_patches::{Room, RoomSpec};
+use room_patches::RoomSpec;
 use std::alloc::Global;
+use std::process::Abort;
 use std::test::Fail;
 
 #[test]
@@ -61,21 +67,13 @@ fn axial(alloc: Global) -> Result<Web, Fail> {
         100_000_000,
         500_000,
     ];
-    Ok(Web::new(alloc, &[0, 360_000], &[0, 45_000, 90_000], &values)?)
+    web_of(alloc, &[0, 360_000], &[0, 45_000, 90_000], &values)
 }
 
-// Another intensity to each side, 1 to 4 candela, with 5 straight down and almost nothing upwards.
-fn sided(alloc: Global) -> Result<Web, Fail> {
-    let values = [
-        5_000_000, 1_000_000, 100, 5_000_000, 2_000_000, 100, 5_000_000, 3_000_000, 100, 5_000_000,
-        4_000_000, 100, 5_000_000, 1_000_000, 100,
-    ];
-    Ok(Web::new(
-        alloc,
-        &[0, 90_000, 180_000, 270_000, 360_000],
-        &[0, 90_000, 180_000],
-        &values,
-    )?)
+fn intensity_at(rt: &impl Abort, web: &Web, c: u32, gamma: u32) -> u64 {
+    assert!(rt; c < 360_000);
+    assert!(rt; gamma <= 180_000);
+    intensity(web, c, gamma)
 }
 
 #[test]
@@ -91,7 +89,7 @@ fn an_intensity_stands_between_the_stored_ones(rt: HostRuntime) -> Result<(), Fa
         (180_000, 0),
     ];
     for (gamma, expected) in rows {
-        assert_eq!(rt; intensity(&axial, 0, gamma), expected);
+        assert_eq!(rt; intensity_at(&rt, &axial, 0, gamma), expected);
     }
     let sided = sided(alloc)?;
     let rows: [(u32, u32, u64); 8] = [
@@ -105,9 +103,7 @@ fn an_intensity_stands_between_the_stored_ones(rt: HostRuntime) -> Result<(), Fa
         (0, 180_000, 100),
     ];
     for (c, gamma, expected) in rows {
-        assert!(rt; c < 360_000);
-        assert!(rt; gamma <= 180_000);
-        assert_eq!(rt; intensity(&sided, c, gamma), expected);
+        assert_eq!(rt; intensity_at(&rt, &sided, c, gamma), expected);
     }
     Ok(())
 }
@@ -141,28 +137,38 @@ const BEAMS: [(u32, u32, [i32; 3], u64); 13] = [
     (359_999, 999, [11_500, 7_500, 6_000], 1_227_719),
 ];
 
-// The luminaire hangs in the middle of the hall, 2.5 m up.
+// In the middle of the hall, 2.5 m up.
+fn hung(rotation: u32, level: u32) -> FixtureSpec {
+    FixtureSpec {
+        web: 0,
+        x: 3_000,
+        y: 2_000,
+        z: 2_500,
+        rotation,
+        level,
+    }
+}
+
+// What the one luminaire sends towards a place.
+fn beam_towards(rt: &impl Abort, placed: &[Fixture], web: &Web, towards: [i32; 3]) -> u64
+    requires { All IsPlaced placed.now }
+{
+    let [x, y, z] = towards;
+    assert!(rt; 0 <= x && x <= 200_000);
+    assert!(rt; 0 <= y && y <= 200_000);
+    assert!(rt; 0 <= z && z <= 200_000);
+    assert_eq!(rt; placed.len(), 1);
+    beam(&placed[0], web, [x, y, z])
+}
+
 #[test]
 fn a_luminaire_shines_by_its_rotation_and_level(rt: HostRuntime) -> Result<(), Fail> {
     let alloc = rt.alloc();
     let web = sided(alloc)?;
-    let hall = Room::new(alloc, HALL)?;
-    for (rotation, level, towards, expected) in BEAMS {
-        let asked = FixtureSpec {
-            web: 0,
-            x: 3_000,
-            y: 2_000,
-            z: 2_500,
-            rotation,
-            level,
-        };
-        let placed = place(alloc, &hall, &[asked])?;
-        assert_eq!(rt; placed.len(), 1);
-        let [x, y, z] = towards;
-        assert!(rt; 0 <= x && x <= 200_000);
-        assert!(rt; 0 <= y && y <= 200_000);
-        assert!(rt; 0 <= z && z <= 200_000);
-        assert_eq!(rt; beam(&placed[0], &web, [x, y, z]), expected);
+    let hall = room_of(alloc, HALL)?;
+    for (rotation, level, towards, expected) in &BEAMS {
+        let placed = place(alloc, &hall, &[hung(*rotation, *level)])?;
+        assert_eq!(rt; beam_towards(&rt, &placed, &web, *towards), *expected);
     }
     Ok(())
 }

@@ -13,3 +13,7 @@ mod point_light;
 mod room_grids;
 #[cfg(test)]
 mod rooms;
+#[cfg(test)]
+mod sample_luminaires;
+#[cfg(test)]
+mod sample_rooms;

@@ -1,10 +1,10 @@
 // The light at points of rooms.
-ghost use Rattle.std.specs.Prelude.{◌≡◌, ◌≤◌, ◌<◌, ◌+◌, ◌*◌, ◌^◌, true, All, length};
-ghost use Rattle.room_patches.specs.Patches.{patches};
-ghost use Rattle.grids.specs.Grids.{count};
+ghost use Rattle.std.specs.Prelude.{◌≡◌, ◌≤◌, ◌<◌, ◌+◌, ◌*◌, ◌^◌, true, All, IfOk, length};
 
-use crate::room_grids::{CUBE, DESKS, OFFICE, SHELF, UNEVEN, laid};
-use fixtures::{Fixture, FixtureSpec, place};
+use crate::room_grids::{DESKS, SHELF, laid};
+use crate::sample_luminaires::{MIDDLE, even, four_panels, one_web, panel, placed, sided};
+use crate::sample_rooms::{CUBE, OFFICE, UNEVEN, room_of};
+use fixtures::FixtureSpec;
 use grids::{Grid, direct_points};
 use photo_web::Web;
 use room_patches::Room;
@@ -12,29 +12,10 @@ use std::alloc::Global;
 use std::process::Abort;
 use std::test::Fail;
 
-// One candela in all directions.
-fn even(alloc: Global) -> Result<Web, Fail> {
-    Ok(Web::new(alloc, &[0, 360_000], &[0, 180_000], &[1_000_000; 4])?)
-}
-
-// Another intensity to each side, 1 to 4 candela, with 5 straight down and almost nothing upwards.
-fn sided(alloc: Global) -> Result<Web, Fail> {
-    let values = [
-        5_000_000, 1_000_000, 100, 5_000_000, 2_000_000, 100, 5_000_000, 3_000_000, 100, 5_000_000,
-        4_000_000, 100, 5_000_000, 1_000_000, 100,
-    ];
-    Ok(Web::new(
-        alloc,
-        &[0, 90_000, 180_000, 270_000, 360_000],
-        &[0, 90_000, 180_000],
-        &values,
-    )?)
-}
-
 // The webs of the luminaires below: an even one and a sided one.
 fn two_webs(alloc: Global) -> Result<Vec<Web>, Fail> {
     let mut webs = Vec::new(alloc);
-    webs.push(even(alloc)?)?;
+    webs.push(even(alloc, 1_000_000)?)?;
     webs.push(sided(alloc)?)?;
     Ok(webs)
 }
@@ -134,7 +115,23 @@ fn are_ends(bounds: &[(u64, u64)]) -> bool
     in_order && within
 }
 
-// The interval at a point, where the ends of patches are as they must be.
+// What luminaires send to the points of a grid.
+fn lit(
+    rt: &impl Abort,
+    alloc: Global,
+    room: &Room,
+    grid: &Grid,
+    luminaires: &[FixtureSpec],
+    webs: &[Web],
+) -> Result<Vec<u128>, Fail>
+    requires { length luminaires.now < 2 ^ 32 }
+    ensures { IfOk result (λ direct. All (λ light. light ≤ 2 * 10 ^ 27) direct.items) }
+{
+    let fixtures = placed(rt, alloc, room, luminaires, webs)?;
+    Ok(direct_points(alloc, grid, &fixtures, webs)?)
+}
+
+// The interval at a point, where the numbers of points and patches and the ends of patches are as they must be.
 fn interval_at(
     rt: &impl Abort,
     grid: &Grid,
@@ -144,151 +141,99 @@ fn interval_at(
     g: usize,
 ) -> (u128, u128)
     requires room { room.now ≡ grid.now.room }
-    requires points { length direct.now ≡ count grid.now }
     requires direct { All (λ light. light ≤ 2 * 10 ^ 27) direct.now }
-    requires patches { length bounds.now ≡ length (patches room.now) }
-    requires point { g < count grid.now }
 {
+    assert_eq!(rt; direct.len(), grid.len());
+    assert_eq!(rt; bounds.len(), room.len());
+    assert!(rt; g < grid.len());
     assert!(rt; are_ends(bounds));
     grid.point_interval(room, direct, bounds, g)
 }
 
-// Whether each luminaire has its web.
-fn have_webs(fixtures: &[Fixture], webs: &[Web]) -> bool
-    ensures { result ≡ true → All (λ fixture. fixture.web < length webs.now) fixtures.now }
+// The direct light and the interval at each point of the shelf.
+fn assert_shelf(rt: &impl Abort, shelf: &Grid, room: &Room, direct: &[u128])
+    requires room { room.now ≡ shelf.now.room }
+    requires direct { All (λ light. light ≤ 2 * 10 ^ 27) direct.now }
 {
-    let count = webs.len();
-    fixtures
-        .iter()
-        .all(|fixture| (fixture.web as usize) < count)
+    assert_eq!(rt; direct.len(), 12);
+    for (g, (light, low, high)) in UNEVEN_LIGHT.iter().enumerate() {
+        assert_eq!(rt; direct.get(g), Some(light));
+        let ends = interval_at(rt, shelf, room, direct, &UNEVEN_BOUNDS, g);
+        assert_eq!(rt; ends, (*low, *high));
+    }
 }
 
 #[test]
 fn the_light_at_points_is_what_another_program_finds(rt: HostRuntime) -> Result<(), Fail> {
     let alloc = rt.alloc();
-    let room = Room::new(alloc, UNEVEN)?;
+    let room = room_of(alloc, UNEVEN)?;
     let shelf = laid(alloc, &room, SHELF)?;
-    let fixtures = place(alloc, &room, &LUMINAIRES)?;
     let webs = two_webs(alloc)?;
-    assert_eq!(rt; webs.len(), 2);
-    let direct = direct_points(alloc, &shelf, &fixtures, &webs)?;
-    let bounds = UNEVEN_BOUNDS;
-    assert_eq!(rt; direct.len(), shelf.len());
-    assert_eq!(rt; direct.len(), 12);
-    assert_eq!(rt; bounds.len(), room.len());
-    for (g, (light, low, high)) in UNEVEN_LIGHT.iter().enumerate() {
-        assert_eq!(rt; direct.get(g), Some(light));
-        assert!(rt; g < shelf.len());
-        assert_eq!(rt;
-            interval_at(&rt, &shelf, &room, &direct, &bounds, g),
-            (*low, *high)
-        );
-    }
+    let direct = lit(&rt, alloc, &room, &shelf, &LUMINAIRES, &webs)?;
+    assert_shelf(&rt, &shelf, &room, &direct);
+    Ok(())
+}
+
+// The direct light at the middle of a cube's floor, and the interval there, where each patch has the same ends.
+fn assert_floor(
+    rt: &impl Abort,
+    alloc: Global,
+    luminaires: &[FixtureSpec],
+    light: u128,
+    bounds: &[(u64, u64); 6],
+    ends: (u128, u128),
+) -> Result<(), Fail>
+    requires { length luminaires.now < 2 ^ 32 }
+{
+    let room = room_of(alloc, CUBE)?;
+    let floor = laid(alloc, &room, [0, 1_000, 0, 1_000, 0, 1, 1])?;
+    let webs = two_webs(alloc)?;
+    let direct = lit(rt, alloc, &room, &floor, luminaires, &webs)?;
+    assert_eq!(rt; direct.as_slice(), [light].as_slice());
+    assert_eq!(rt; interval_at(rt, &floor, &room, &direct, bounds, 0), ends);
     Ok(())
 }
 
 #[test]
 fn the_floor_of_a_cube_is_lit_by_its_middle(rt: HostRuntime) -> Result<(), Fail> {
     let alloc = rt.alloc();
-    let room = Room::new(alloc, CUBE)?;
-    let floor = laid(alloc, &room, [0, 1_000, 0, 1_000, 0, 1, 1])?;
-    let middle = FixtureSpec {
-        web: 0,
-        x: 500,
-        y: 500,
-        z: 500,
-        rotation: 0,
-        level: 1_000,
-    };
-    let fixtures = place(alloc, &room, &[middle])?;
-    let webs = two_webs(alloc)?;
-    assert_eq!(rt; webs.len(), 2);
-    let direct = direct_points(alloc, &floor, &fixtures, &webs)?;
-    assert_eq!(rt; direct.as_slice(), [4_000_000_000].as_slice());
     let bounds = [(4_000_000_000, 8_799_999_953); 6];
-    assert_eq!(rt; room.len(), 6);
-    assert_eq!(rt; floor.len(), 1);
-    assert_eq!(rt;
-        floor.point_interval(&room, &direct, &bounds, 0),
-        (7_183_098_860, 11_002_817_455)
-    );
-    let dark = direct_points(alloc, &floor, &[], &webs)?;
-    assert_eq!(rt; dark.as_slice(), [0].as_slice());
-    assert_eq!(rt; floor.point_interval(&room, &dark, &[(0, 0); 6], 0), (0, 0));
-    Ok(())
+    let ends = (7_183_098_860, 11_002_817_455);
+    assert_floor(&rt, alloc, &[MIDDLE], 4_000_000_000, &bounds, ends)?;
+    assert_floor(&rt, alloc, &[], 0, &[(0, 0); 6], (0, 0))
 }
 
-// A recessed panel of 36 W, all round and from straight down to the side.
-fn panel(alloc: Global) -> Result<Web, Fail> {
-    let gammas = [
-        0, 10_000, 20_000, 30_000, 40_000, 50_000, 60_000, 70_000, 80_000, 90_000,
-    ];
-    let values = [
-        1_300_000_000,
-        1_280_000_000,
-        1_222_000_000,
-        1_126_000_000,
-        996_000_000,
-        836_000_000,
-        650_000_000,
-        445_000_000,
-        226_000_000,
-        0,
-        1_300_000_000,
-        1_280_000_000,
-        1_222_000_000,
-        1_126_000_000,
-        996_000_000,
-        836_000_000,
-        650_000_000,
-        445_000_000,
-        226_000_000,
-        0,
-    ];
-    Ok(Web::new(alloc, &[0, 360_000], &gammas, &values)?)
+fn sum(lights: &[u128]) -> u128 {
+    let mut sum = 0u128;
+    for light in lights {
+        sum = sum.saturating_add(*light);
+    }
+    sum
 }
 
-fn panel_at(x: u32, y: u32) -> FixtureSpec {
-    FixtureSpec {
-        web: 0,
-        x,
-        y,
-        z: 2_800,
-        rotation: 0,
-        level: 1_000,
+// At some points of the desks the direct illuminance of four panels.
+const DESKS_LIGHT: [(usize, u128); 5] = [
+    (0, 316_926_025_915),
+    (1, 392_874_736_462),
+    (23, 430_964_387_185),
+    (37, 461_173_572_855),
+    (59, 316_926_025_915),
+];
+
+fn assert_desks(rt: &impl Abort, direct: &[u128]) {
+    assert_eq!(rt; sum(direct), 23_916_285_975_700);
+    for (g, expected) in &DESKS_LIGHT {
+        assert_eq!(rt; direct.get(*g), Some(expected));
     }
 }
 
 #[test]
 fn four_panels_light_the_desks_of_an_office(rt: HostRuntime) -> Result<(), Fail> {
     let alloc = rt.alloc();
-    let office = Room::new(alloc, OFFICE)?;
+    let office = room_of(alloc, OFFICE)?;
     let desks = laid(alloc, &office, DESKS)?;
-    let panels = [
-        panel_at(1_500, 1_000),
-        panel_at(4_500, 1_000),
-        panel_at(1_500, 3_000),
-        panel_at(4_500, 3_000),
-    ];
-    let fixtures = place(alloc, &office, &panels)?;
-    let mut webs = Vec::new(alloc);
-    webs.push(panel(alloc)?)?;
-    assert!(rt; have_webs(&fixtures, &webs));
-    let direct = direct_points(alloc, &desks, &fixtures, &webs)?;
-    let mut sum = 0u128;
-    for light in &direct {
-        sum = sum.saturating_add(*light);
-    }
-    assert_eq!(rt; sum, 23_916_285_975_700);
-    let rows: [(usize, u128); 5] = [
-        (0, 316_926_025_915),
-        (1, 392_874_736_462),
-        (23, 430_964_387_185),
-        (37, 461_173_572_855),
-        (59, 316_926_025_915),
-    ];
-    for (g, expected) in rows {
-        assert_eq!(rt; direct.get(g), Some(&expected));
-    }
+    let webs = one_web(alloc, panel(alloc)?)?;
+    let direct = lit(&rt, alloc, &office, &desks, &four_panels(), &webs)?;
+    assert_desks(&rt, &direct);
     Ok(())
 }

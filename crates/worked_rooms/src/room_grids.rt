@@ -1,6 +1,7 @@
 // Grids of points in rooms.
 ghost use Rattle.std.specs.Prelude.{◌≡◌, IfOk};
 
+use crate::sample_rooms::{CUBE, OFFICE, UNEVEN, room_of};
 use compliance::CheckSpec;
 use grids::{Grid, GridFault};
 use lux_io::Name;
@@ -12,45 +13,9 @@ use std::test::Fail;
 // x0, x1, y0, y1 and z of a rectangle in millimetres, and the counts along x and y.
 pub type Numbers = [u32; 7];
 
-pub const OFFICE: RoomSpec = RoomSpec {
-    width: 6_000,
-    depth: 4_000,
-    height: 3_000,
-    nx: 12,
-    ny: 8,
-    nz: 6,
-    floor: 200,
-    ceiling: 700,
-    walls: 500,
-};
-
 pub const DESKS: Numbers = [500, 5_500, 500, 3_500, 750, 10, 6];
 
-pub const CUBE: RoomSpec = RoomSpec {
-    width: 1_000,
-    depth: 1_000,
-    height: 1_000,
-    nx: 1,
-    ny: 1,
-    nz: 1,
-    floor: 500,
-    ceiling: 500,
-    walls: 500,
-};
-
-// Lengths that no part divides, and a rectangle that no count does.
-pub const UNEVEN: RoomSpec = RoomSpec {
-    width: 1_001,
-    depth: 999,
-    height: 500,
-    nx: 3,
-    ny: 2,
-    nz: 1,
-    floor: 100,
-    ceiling: 200,
-    walls: 300,
-};
-
+// A rectangle that no count divides.
 pub const SHELF: Numbers = [100, 901, 50, 948, 101, 4, 3];
 
 // Small patches, so that a point is near to many.
@@ -90,42 +55,48 @@ pub fn laid(alloc: Global, room: &Room, numbers: Numbers) -> Result<Grid, Fail>
     Ok(Grid::new(alloc, room, &check)?)
 }
 
+// A point by its number, and where it stands, in half-millimetres.
+type Place = (usize, [i32; 3]);
+
+const SHELF_POINTS: [Place; 12] = [
+    (0, [400, 399, 202]),
+    (1, [800, 399, 202]),
+    (2, [1_201, 399, 202]),
+    (3, [1_601, 399, 202]),
+    (4, [400, 998, 202]),
+    (5, [800, 998, 202]),
+    (6, [1_201, 998, 202]),
+    (7, [1_601, 998, 202]),
+    (8, [400, 1_596, 202]),
+    (9, [800, 1_596, 202]),
+    (10, [1_201, 1_596, 202]),
+    (11, [1_601, 1_596, 202]),
+];
+
+const DESKS_POINTS: [Place; 3] = [
+    (0, [1_500, 1_500, 1_500]),
+    (37, [8_500, 4_500, 1_500]),
+    (59, [10_500, 6_500, 1_500]),
+];
+
+fn assert_points(rt: &impl Abort, grid: &Grid, points: &[Place]) {
+    for (g, point) in points {
+        assert!(rt; *g < grid.len());
+        assert_eq!(rt; grid.point(*g), *point);
+    }
+}
+
 #[test]
 fn points_stand_in_the_middle_of_their_cells(rt: HostRuntime) -> Result<(), Fail> {
     let alloc = rt.alloc();
-    let uneven = Room::new(alloc, UNEVEN)?;
+    let uneven = room_of(alloc, UNEVEN)?;
     let shelf = laid(alloc, &uneven, SHELF)?;
-    let expected = [
-        [400, 399, 202],
-        [800, 399, 202],
-        [1_201, 399, 202],
-        [1_601, 399, 202],
-        [400, 998, 202],
-        [800, 998, 202],
-        [1_201, 998, 202],
-        [1_601, 998, 202],
-        [400, 1_596, 202],
-        [800, 1_596, 202],
-        [1_201, 1_596, 202],
-        [1_601, 1_596, 202],
-    ];
     assert_eq!(rt; shelf.len(), 12);
-    for (g, point) in expected.iter().enumerate() {
-        assert!(rt; g < shelf.len());
-        assert_eq!(rt; shelf.point(g), *point);
-    }
-    let office = Room::new(alloc, OFFICE)?;
+    assert_points(&rt, &shelf, &SHELF_POINTS);
+    let office = room_of(alloc, OFFICE)?;
     let desks = laid(alloc, &office, DESKS)?;
     assert_eq!(rt; desks.len(), 60);
-    let rows: [(usize, [i32; 3]); 3] = [
-        (0, [1_500, 1_500, 1_500]),
-        (37, [8_500, 4_500, 1_500]),
-        (59, [10_500, 6_500, 1_500]),
-    ];
-    for (g, point) in rows {
-        assert!(rt; g < desks.len());
-        assert_eq!(rt; desks.point(g), point);
-    }
+    assert_points(&rt, &desks, &DESKS_POINTS);
     Ok(())
 }
 
@@ -207,7 +178,7 @@ const COUNTS: [Row; 9] = [
 
 fn test_rows(rt: &impl Abort, alloc: Global, rows: &[Row]) -> Result<(), Fail> {
     for (spec, numbers, expected) in rows {
-        let room = Room::new(alloc, *spec)?;
+        let room = room_of(alloc, *spec)?;
         let check = check_of(alloc, *numbers)?;
         assert_eq!(rt; Grid::new(alloc, &room, &check).err(), *expected);
     }
@@ -277,15 +248,27 @@ const COEFFICIENTS: [(RoomSpec, Numbers, usize, usize, u64); 22] = [
     (OFFICE, DESKS, 33, 389, 21_945_649_265),
 ];
 
+fn coefficient(
+    rt: &impl Abort,
+    alloc: Global,
+    spec: RoomSpec,
+    numbers: Numbers,
+    g: usize,
+    patch: usize,
+) -> Result<u64, Fail> {
+    let room = room_of(alloc, spec)?;
+    let grid = laid(alloc, &room, numbers)?;
+    assert!(rt; g < grid.len());
+    assert!(rt; patch < room.len());
+    Ok(grid.coef(&room, patch, g))
+}
+
 #[test]
 fn a_point_gets_a_part_of_what_leaves_a_patch(rt: HostRuntime) -> Result<(), Fail> {
     let alloc = rt.alloc();
-    for (spec, numbers, g, patch, expected) in COEFFICIENTS {
-        let room = Room::new(alloc, spec)?;
-        let grid = laid(alloc, &room, numbers)?;
-        assert!(rt; g < grid.len());
-        assert!(rt; patch < room.len());
-        assert_eq!(rt; grid.coef(&room, patch, g), expected);
+    for (spec, numbers, g, patch, expected) in &COEFFICIENTS {
+        let coefficient = coefficient(&rt, alloc, *spec, *numbers, *g, *patch)?;
+        assert_eq!(rt; coefficient, *expected);
     }
     Ok(())
 }

@@ -1,48 +1,16 @@
 // Rooms, their patches, luminaires in them, the flux that these send to the patches, and the shares that patches pass on.
+ghost use Rattle.std.specs.Prelude.{◌<◌, ◌≤◌, ◌^◌, IfOk, length, sum};
+
+use crate::sample_luminaires::{MIDDLE, even, four_panels, one_web, panel, placed};
+use crate::sample_rooms::{CUBE, OFFICE, UNEVEN, room_of};
 use direct_flux::{DirectFault, direct};
 use fixtures::{Fixture, FixtureFault, FixtureSpec, place};
 use photo_web::Web;
 use room_patches::{Patch, Room, RoomFault, RoomSpec};
 use std::alloc::Global;
+use std::process::Abort;
 use std::test::Fail;
 use transfer_shares::{all_rows, reflectances, shares_row};
-
-const OFFICE: RoomSpec = RoomSpec {
-    width: 6_000,
-    depth: 4_000,
-    height: 3_000,
-    nx: 12,
-    ny: 8,
-    nz: 6,
-    floor: 200,
-    ceiling: 700,
-    walls: 500,
-};
-
-const CUBE: RoomSpec = RoomSpec {
-    width: 1_000,
-    depth: 1_000,
-    height: 1_000,
-    nx: 1,
-    ny: 1,
-    nz: 1,
-    floor: 500,
-    ceiling: 500,
-    walls: 500,
-};
-
-// Lengths that no part divides.
-const UNEVEN: RoomSpec = RoomSpec {
-    width: 1_001,
-    depth: 999,
-    height: 500,
-    nx: 3,
-    ny: 2,
-    nz: 1,
-    floor: 100,
-    ceiling: 200,
-    walls: 300,
-};
 
 // A patch by its number, and what it is: its centre, the axis and the direction of its normal, its area and its
 // reflectance.
@@ -87,22 +55,23 @@ fn patch_of(row: Row) -> Patch {
     }
 }
 
+fn assert_patches(rt: &impl Abort, room: &Room, rows: &[Row]) {
+    for row in rows {
+        assert!(rt; row.0 < room.len());
+        assert_eq!(rt; room.patch(row.0), patch_of(*row));
+    }
+}
+
 #[test]
 fn a_room_is_cut_into_patches(rt: HostRuntime) -> Result<(), Fail> {
     let alloc = rt.alloc();
-    let office = Room::new(alloc, OFFICE)?;
+    let office = room_of(alloc, OFFICE)?;
     assert_eq!(rt; office.spec(), OFFICE);
     assert_eq!(rt; office.len(), 432);
-    for row in OFFICE_PATCHES {
-        assert!(rt; row.0 < office.len());
-        assert_eq!(rt; office.patch(row.0), patch_of(row));
-    }
-    let uneven = Room::new(alloc, UNEVEN)?;
+    assert_patches(&rt, &office, &OFFICE_PATCHES);
+    let uneven = room_of(alloc, UNEVEN)?;
     assert_eq!(rt; uneven.len(), 22);
-    for row in UNEVEN_PATCHES {
-        assert!(rt; row.0 < uneven.len());
-        assert_eq!(rt; uneven.patch(row.0), patch_of(row));
-    }
+    assert_patches(&rt, &uneven, &UNEVEN_PATCHES);
     Ok(())
 }
 
@@ -140,40 +109,35 @@ const FAULTY_ROOMS: [([u32; 9], Option<RoomFault>); 9] = [
     ([1_000, 1_000, 1_000, 16, 16, 8, 950, 950, 950], None),
 ];
 
+fn spec_of(numbers: [u32; 9]) -> RoomSpec {
+    let [width, depth, height, nx, ny, nz, floor, ceiling, walls] = numbers;
+    RoomSpec {
+        width,
+        depth,
+        height,
+        nx,
+        ny,
+        nz,
+        floor,
+        ceiling,
+        walls,
+    }
+}
+
 #[test]
 fn a_room_is_refused_by_its_first_fault(rt: HostRuntime) -> Result<(), Fail> {
     let alloc = rt.alloc();
-    for (numbers, expected) in FAULTY_ROOMS {
-        let [width, depth, height, nx, ny, nz, floor, ceiling, walls] = numbers;
-        let spec = RoomSpec {
-            width,
-            depth,
-            height,
-            nx,
-            ny,
-            nz,
-            floor,
-            ceiling,
-            walls,
-        };
-        assert_eq!(rt; Room::new(alloc, spec).err(), expected);
+    for (numbers, expected) in &FAULTY_ROOMS {
+        let room = Room::new(alloc, spec_of(*numbers));
+        assert_eq!(rt; room.err(), *expected);
     }
     Ok(())
 }
 
-const MIDDLE: FixtureSpec = FixtureSpec {
-    web: 0,
-    x: 500,
-    y: 500,
-    z: 500,
-    rotation: 0,
-    level: 1_000,
-};
-
 #[test]
 fn luminaires_are_placed_in_half_millimetres(rt: HostRuntime) -> Result<(), Fail> {
     let alloc = rt.alloc();
-    let cube = Room::new(alloc, CUBE)?;
+    let cube = room_of(alloc, CUBE)?;
     let corner = FixtureSpec {
         web: 7,
         x: 1_000,
@@ -211,49 +175,54 @@ const FAULTY_FIXTURES: [([u32; 5], FixtureFault); 5] = [
     ([500, 500, 500, 0, 1_001], FixtureFault::Level { at: 1 }),
 ];
 
+// What is wrong with the second of three luminaires; the third has a later fault.
+fn fixture_fault(alloc: Global, room: &Room, numbers: [u32; 5]) -> Option<FixtureFault> {
+    let [x, y, z, rotation, level] = numbers;
+    let asked = FixtureSpec {
+        web: 0,
+        x,
+        y,
+        z,
+        rotation,
+        level,
+    };
+    let later = FixtureSpec { x: 5_000, ..MIDDLE };
+    place(alloc, room, &[MIDDLE, asked, later]).err()
+}
+
 #[test]
 fn luminaires_are_refused_by_the_first_fault(rt: HostRuntime) -> Result<(), Fail> {
     let alloc = rt.alloc();
-    let cube = Room::new(alloc, CUBE)?;
-    for (numbers, fault) in FAULTY_FIXTURES {
-        let [x, y, z, rotation, level] = numbers;
-        let asked = FixtureSpec {
-            web: 0,
-            x,
-            y,
-            z,
-            rotation,
-            level,
-        };
-        let later = FixtureSpec { x: 5_000, ..MIDDLE };
-        assert_eq!(rt;
-            place(alloc, &cube, &[MIDDLE, asked, later]).err(),
-            Some(fault)
-        );
+    let cube = room_of(alloc, CUBE)?;
+    for (numbers, fault) in &FAULTY_FIXTURES {
+        assert_eq!(rt; fixture_fault(alloc, &cube, *numbers), Some(*fault));
     }
     Ok(())
 }
 
-// The same intensity, in microcandela, in all directions.
-fn even(alloc: Global, intensity: u64) -> Result<Web, Fail> {
-    Ok(Web::new(
-        alloc,
-        &[0, 360_000],
-        &[0, 180_000],
-        &[intensity, intensity, intensity, intensity],
-    )?)
+// What luminaires send to the patches of a room.
+fn flux_of(
+    rt: &impl Abort,
+    alloc: Global,
+    room: &Room,
+    luminaires: &[FixtureSpec],
+    webs: &[Web],
+) -> Result<Vec<u64>, Fail>
+    requires { length luminaires.now < 2 ^ 32 }
+    ensures { IfOk result (λ flux. sum flux.items ≤ 10 ^ 16) }
+{
+    let fixtures = placed(rt, alloc, room, luminaires, webs)?;
+    Ok(direct(alloc, room, &fixtures, webs)?)
 }
 
 #[test]
 fn each_face_of_a_cube_gets_the_same(rt: HostRuntime) -> Result<(), Fail> {
     let alloc = rt.alloc();
-    let cube = Room::new(alloc, CUBE)?;
-    let mut webs = Vec::new(alloc);
-    webs.push(even(alloc, 1_000_000)?)?;
-    let rows: [(u32, u64); 3] = [(1_000, 4_000_000_000), (200, 800_000_000), (0, 0)];
-    for (level, expected) in rows {
-        let fixtures = place(alloc, &cube, &[FixtureSpec { level, ..MIDDLE }])?;
-        let flux = direct(alloc, &cube, &fixtures, &webs)?;
+    let cube = room_of(alloc, CUBE)?;
+    let webs = one_web(alloc, even(alloc, 1_000_000)?)?;
+    for (level, expected) in [(1_000, 4_000_000_000), (200, 800_000_000), (0, 0)] {
+        let luminaire = FixtureSpec { level, ..MIDDLE };
+        let flux = flux_of(&rt, alloc, &cube, &[luminaire], &webs)?;
         assert_eq!(rt; flux.as_slice(), [expected; 6].as_slice());
     }
     let dark = direct(alloc, &cube, &[], &webs)?;
@@ -264,10 +233,9 @@ fn each_face_of_a_cube_gets_the_same(rt: HostRuntime) -> Result<(), Fail> {
 #[test]
 fn too_much_flux_is_refused_with_its_sum(rt: HostRuntime) -> Result<(), Fail> {
     let alloc = rt.alloc();
-    let cube = Room::new(alloc, CUBE)?;
-    let mut webs = Vec::new(alloc);
-    webs.push(even(alloc, 1_000_000_000_000_000)?)?;
-    let fixtures = place(alloc, &cube, &[MIDDLE, MIDDLE])?;
+    let cube = room_of(alloc, CUBE)?;
+    let webs = one_web(alloc, even(alloc, 1_000_000_000_000_000)?)?;
+    let fixtures = placed(&rt, alloc, &cube, &[MIDDLE, MIDDLE], &webs)?;
     assert_eq!(rt;
         direct(alloc, &cube, &fixtures, &webs).err(),
         Some(DirectFault::FluxTooLarge {
@@ -277,21 +245,7 @@ fn too_much_flux_is_refused_with_its_sum(rt: HostRuntime) -> Result<(), Fail> {
     Ok(())
 }
 
-// A recessed panel of 36 W.
-const PANEL: [u64; 10] = [
-    1_300_000_000,
-    1_280_000_000,
-    1_222_000_000,
-    1_126_000_000,
-    996_000_000,
-    836_000_000,
-    650_000_000,
-    445_000_000,
-    226_000_000,
-    0,
-];
-
-// What another program finds for four such panels.
+// What another program finds for four panels.
 const OFFICE_FLUX: [(usize, u64); 9] = [
     (0, 40_317_349_412),
     (1, 49_605_362_500),
@@ -304,66 +258,41 @@ const OFFICE_FLUX: [(usize, u64); 9] = [
     (431, 3_008_168_005),
 ];
 
-#[test]
-fn four_panels_light_an_office(rt: HostRuntime) -> Result<(), Fail> {
-    let alloc = rt.alloc();
-    let office = Room::new(alloc, OFFICE)?;
-    let gammas = [
-        0, 10_000, 20_000, 30_000, 40_000, 50_000, 60_000, 70_000, 80_000, 90_000,
-    ];
-    let mut values = Vec::from_slice(alloc, &PANEL)?;
-    values.extend_from_slice(&PANEL)?;
-    let mut webs = Vec::new(alloc);
-    webs.push(Web::new(alloc, &[0, 360_000], &gammas, &values)?)?;
-    let panel = FixtureSpec { z: 2_800, ..MIDDLE };
-    let panels = [
-        FixtureSpec {
-            x: 1_500,
-            y: 1_000,
-            ..panel
-        },
-        FixtureSpec {
-            x: 4_500,
-            y: 1_000,
-            ..panel
-        },
-        FixtureSpec {
-            x: 1_500,
-            y: 3_000,
-            ..panel
-        },
-        FixtureSpec {
-            x: 4_500,
-            y: 3_000,
-            ..panel
-        },
-    ];
-    let fixtures = place(alloc, &office, &panels)?;
-    let flux = direct(alloc, &office, &fixtures, &webs)?;
+fn assert_office(rt: &impl Abort, flux: &[u64])
+    requires { sum flux.now ≤ 10 ^ 16 }
+{
     assert_eq!(rt; flux.len(), 432);
     assert_eq!(rt;
         flux.iter().map(|amount| *amount).sum::<u64>(),
         16_225_926_854_220
     );
-    for (number, expected) in OFFICE_FLUX {
-        assert_eq!(rt; flux.get(number), Some(&expected));
+    for (number, expected) in &OFFICE_FLUX {
+        assert_eq!(rt; flux.get(*number), Some(expected));
     }
-    Ok(())
 }
 
 #[test]
-fn each_face_of_a_cube_passes_on_the_same(rt: HostRuntime) -> Result<(), Fail> {
+fn four_panels_light_an_office(rt: HostRuntime) -> Result<(), Fail> {
     let alloc = rt.alloc();
-    let cube = Room::new(alloc, CUBE)?;
-    let all = all_rows(&rt, alloc, &cube)?;
+    let office = room_of(alloc, OFFICE)?;
+    let webs = one_web(alloc, panel(alloc)?)?;
+    let flux = flux_of(&rt, alloc, &office, &four_panels(), &webs)?;
+    assert_office(&rt, &flux);
+    Ok(())
+}
+
+fn assert_all_of_cube(rt: &impl Abort, all: &[u32]) {
     assert_eq!(rt; all.len(), 36);
     for (place, share) in all.iter().enumerate() {
         let expected = if place % 7 == 0 { 0 } else { 199_999_999 };
         assert_eq!(rt; *share, expected);
     }
+}
+
+fn assert_row_of_cube(rt: &impl Abort, cube: &Room) {
     let mut row = [7; 6];
     assert_eq!(rt; cube.len(), 6);
-    shares_row(&cube, 2, &mut row);
+    shares_row(cube, 2, &mut row);
     assert_eq!(rt;
         row.as_slice(),
         [
@@ -376,6 +305,15 @@ fn each_face_of_a_cube_passes_on_the_same(rt: HostRuntime) -> Result<(), Fail> {
         ]
         .as_slice()
     );
+}
+
+#[test]
+fn each_face_of_a_cube_passes_on_the_same(rt: HostRuntime) -> Result<(), Fail> {
+    let alloc = rt.alloc();
+    let cube = room_of(alloc, CUBE)?;
+    let all = all_rows(&rt, alloc, &cube)?;
+    assert_all_of_cube(&rt, &all);
+    assert_row_of_cube(&rt, &cube);
     assert_eq!(rt; reflectances(alloc, &cube)?.as_slice(), [500; 6].as_slice());
     Ok(())
 }
@@ -397,20 +335,26 @@ const OFFICE_SHARES: [(usize, u32); 13] = [
     (431, 96_085),
 ];
 
+fn shares_of(rt: &impl Abort, alloc: Global, room: &Room, patch: usize) -> Result<Vec<u32>, Fail> {
+    let mut row = vec![in alloc; 0; room.len()]?;
+    assert!(rt; patch < room.len());
+    assert_eq!(rt; row.len(), room.len());
+    shares_row(room, patch, &mut row);
+    Ok(row)
+}
+
+fn assert_row_of_office(rt: &impl Abort, row: &[u32]) {
+    for (number, expected) in &OFFICE_SHARES {
+        assert_eq!(rt; row.get(*number), Some(expected));
+    }
+}
+
 #[test]
 fn an_office_passes_on_what_another_program_finds(rt: HostRuntime) -> Result<(), Fail> {
     let alloc = rt.alloc();
-    let office = Room::new(alloc, OFFICE)?;
-    let mut row = Vec::new(alloc);
-    for _ in 0..office.len() {
-        row.push(0)?;
-    }
-    assert!(rt; 100 < office.len());
-    assert_eq!(rt; row.len(), office.len());
-    shares_row(&office, 100, &mut row);
-    for (number, expected) in OFFICE_SHARES {
-        assert_eq!(rt; row.get(number), Some(&expected));
-    }
+    let office = room_of(alloc, OFFICE)?;
+    let row = shares_of(&rt, alloc, &office, 100)?;
+    assert_row_of_office(&rt, &row);
     let all = all_rows(&rt, alloc, &office)?;
     assert_eq!(rt; all.len(), 432 * 432);
     assert_eq!(rt; &all[43_200..43_632], row.as_slice());
@@ -435,33 +379,26 @@ const SHARING_ROOMS: [[u32; 6]; 8] = [
     [500, 500, 100_000, 4, 4, 60],
 ];
 
+fn assert_rows(rt: &impl Abort, alloc: Global, room: &Room, all: &[u32]) -> Result<(), Fail> {
+    let mut row = vec![in alloc; 0; room.len()]?;
+    for (i, made) in all.chunks(room.len()).enumerate() {
+        assert!(rt; i < room.len());
+        assert_eq!(rt; row.len(), room.len());
+        shares_row(room, i, &mut row);
+        assert_eq!(rt; made, row.as_slice());
+    }
+    Ok(())
+}
+
 #[test]
 fn all_rows_are_those_of_the_formulas(rt: HostRuntime) -> Result<(), Fail> {
     let alloc = rt.alloc();
-    for [width, depth, height, nx, ny, nz] in SHARING_ROOMS {
-        let lengths = RoomSpec {
-            width,
-            depth,
-            height,
-            ..CUBE
-        };
-        let room = Room::new(
-            alloc,
-            RoomSpec {
-                nx,
-                ny,
-                nz,
-                ..lengths
-            },
-        )?;
+    for numbers in &SHARING_ROOMS {
+        let [width, depth, height, nx, ny, nz] = *numbers;
+        let spec = spec_of([width, depth, height, nx, ny, nz, 500, 500, 500]);
+        let room = room_of(alloc, spec)?;
         let all = all_rows(&rt, alloc, &room)?;
-        let mut row = vec![in alloc; 0; room.len()]?;
-        for (i, made) in all.chunks(room.len()).enumerate() {
-            assert!(rt; i < room.len());
-            assert_eq!(rt; row.len(), room.len());
-            shares_row(&room, i, &mut row);
-            assert_eq!(rt; made, row.as_slice());
-        }
+        assert_rows(&rt, alloc, &room, &all)?;
     }
     Ok(())
 }

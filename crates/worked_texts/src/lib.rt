@@ -3,4 +3,6 @@
 
 mod texts;
 
-pub use texts::{CUBE, MOST_BYTES, ONE, TWO_PATCHES, TWO_PATCHES_LEDGER, first_lines, with_line};
+pub use texts::{
+    CHECKED_CUBE, CUBE, MOST_BYTES, ONE, TWO_PATCHES, TWO_PATCHES_LEDGER, first_lines, with_line,
+};

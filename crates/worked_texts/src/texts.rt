@@ -50,3 +50,33 @@ pub fn first_lines(alloc: Global, lines: &[&str], count: usize) -> Result<Vec<u8
     }
     Ok(bytes)
 }
+
+/// The same with a check of a part of the floor, just above it.
+pub const CHECKED_CUBE: &str = r#"version = 1
+[room]
+width = 1000
+depth = 1000
+height = 1000
+counts = [1, 1, 1]
+floor = 500
+ceiling = 500
+walls = 500
+[solver]
+threshold = 5000000000
+[[luminaire]]
+file = "one.ies"
+x = 500
+y = 500
+z = 500
+rotation = 0
+level = 1000
+[[check]]
+name = "floor"
+x = [0, 1000]
+y = [250, 750]
+z = 5
+points = [4, 2]
+maintenance = 800
+average = 5
+uniformity = 600
+"#;

@@ -3,7 +3,7 @@ use Rattle.duties.proofs.Orders.{each_hands_on, each_more, each_none}
 use Rattle.toml.specs.View.{items_view, table_view}
 use Rattle.project_file.specs.declared.faults.ProjFault.TheVariants.{Memory}
 use Rattle.project_file.specs.Fields.{toml_items}
-use Rattle.project_file.specs.Projects.{luminaire, luminaire_duty}
+use Rattle.project_file.specs.Projects.{listed_table, luminaire_duty}
 use Rattle.project_file.specs.Shapes.{texts, are_names}
 use Rattle.project_file.proofs.Lists.{length_listed}
 use Rattle.project_file.proofs.Webs.{files_named, files_are, all_files_are, all_fixtures_are, files_more, fixtures_more, many, webs, used}
@@ -26,14 +26,14 @@ returns-in_err-read_luminaire-clause-answer c =
     let i = c.loop-number.number in
     let inside : i < length ls = omega (arith, length_listed c.args.items.now) in
     each_hands_on Memory _ _ (luminaire_duty ls) (length ls) i inside c.loop-number.invariant.met c.from_residual-in_err-read_luminaire.ensures.1
-    (rw (c.luminaire_table-table.ensures, c.loop-number.invariant.files, ← files_more ls i, files_are ls (i + 1) (omega arith)) at c.in_err-read_luminaire.ensures.answer)
+    (rw (c.listed_table-table.ensures, c.loop-number.invariant.files, ← files_more ls i, files_are ls (i + 1) (omega arith)) at c.in_err-read_luminaire.ensures.answer)
 
 pub loop-number-preserved : goal.loop-number-preserved
 loop-number-preserved c =
     let ls = toml_items (items_view c.args.items.now) in
     let i = c.loop-number.number in
     let before = c.loop-number.invariant in
-    let table : table_view c.luminaire_table-table.result.now ≡ luminaire ls i = c.luminaire_table-table.ensures in
+    let table : table_view c.listed_table-table.result.now ≡ listed_table ls i = c.listed_table-table.ensures in
     let here = c.in_ok-read_luminaire.ensures in
     let files : texts c.read_luminaire.new.files.keys ≡ files_named ls (i + 1) = rw (table, before.files, ← files_more ls i) at here.files in
     record {

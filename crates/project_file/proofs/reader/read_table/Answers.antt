@@ -28,3 +28,10 @@ returns-in_err-files-clause-answer c =
     let top = c.in_ok-top.ensures in
     hands_on Memory _ _ _ _ c.from_residual-in_err-files.ensures.1 (rw top.luminaires at c.in_err-files.ensures.answer)
     (λ h. pair_met _ _ _ top.answer ∙ (this_met _ _ (rw top.room at c.in_ok-room.ensures.answer) ∙ (this_met _ _ (rw top.solver at c.in_ok-threshold.ensures.answer) ∙ this_fails _ _ _ h)))
+
+pub returns-in_err-checks-clause-answer : goal.returns-in_err-checks-clause-answer
+unfolding project_duties
+returns-in_err-checks-clause-answer c =
+    let top = c.in_ok-top.ensures in
+    hands_on Memory _ _ _ _ c.from_residual-in_err-checks.ensures.1 (rw top.checks at c.in_err-checks.ensures.answer)
+    (λ h. pair_met _ _ _ top.answer ∙ (this_met _ _ (rw top.room at c.in_ok-room.ensures.answer) ∙ (this_met _ _ (rw top.solver at c.in_ok-threshold.ensures.answer) ∙ (this_met _ _ (rw top.luminaires at c.in_ok-files.ensures.answer) ∙ this_fails _ _ _ h))))

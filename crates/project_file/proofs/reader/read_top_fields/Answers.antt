@@ -21,3 +21,9 @@ unfolding fields_duty
 returns-in_err-luminaires-clause-answer c =
     hands_on Memory _ _ _ _ c.from_residual-in_err-luminaires.ensures.1 c.in_err-luminaires.ensures.answer
     (λ h. this_met _ _ (version_met _ _ c.requires) ∙ (this_met _ _ c.in_ok-room.ensures.answer ∙ (this_met _ _ c.in_ok-solver.ensures.answer ∙ this_fails _ _ _ h)))
+
+pub returns-in_err-checks-clause-answer : goal.returns-in_err-checks-clause-answer
+unfolding fields_duty
+returns-in_err-checks-clause-answer c =
+    hands_on Memory _ _ _ _ c.from_residual-in_err-checks.ensures.1 c.in_err-checks.ensures.answer
+    (λ h. this_met _ _ (version_met _ _ c.requires) ∙ (this_met _ _ c.in_ok-room.ensures.answer ∙ (this_met _ _ c.in_ok-solver.ensures.answer ∙ (this_met _ _ c.in_ok-luminaires.ensures.answer ∙ this_fails _ _ _ h))))

@@ -1,8 +1,8 @@
 use Rattle.std.proofs.Common.{ap, refl, sym, map, ◌∙◌, length}
 use Rattle.fixtures.specs.Fixtures.{fixture_of}
 use Rattle.flux_system.specs.System.{FluxSystem, patches}
-use Rattle.lit_room.proofs.Lighting.{webs_in_range, a_flux_each}
-use Rattle.lit_room.proofs.Making.{no_room, no_fixture, past_limit, all_passed, flux_is, system_is}
+use Rattle.lit_room.proofs.Lighting.{webs_in_range, few_placed, a_flux_each}
+use Rattle.lit_room.proofs.Making.{no_room, no_fixture, past_limit, no_grid, all_passed, flux_is, system_is}
 use Rattle.lit_room.proofs.lit_rooms.LitRoom.new.Goals as goal
 
 pub returns-in-Err-clause-fault : goal.returns-in-Err-clause-fault
@@ -31,19 +31,29 @@ returns-in-Err-test_limits-clause-fault g c = λ ne.
     past_limit (record { project = c.args.project; webs = c.args.webs.items }) _ _ _ c.room.ensures c.in-Ok.ensures.room c.fixtures.ensures.value c.in-Ok.ensures.answer c.in-Ok-place_all.ensures.answer _ _
     (c.in-Ok-make_system.ensures.system ∙ system) (c.deref-3.ensures.value ∙ (c.in-Ok-light_patches.ensures.flux ∙ flux)) _ (c.in-Err-test_limits.ensures ne)
 
+pub returns-in-Err-lay_grids-clause-fault : goal.returns-in-Err-lay_grids-clause-fault
+returns-in-Err-lay_grids-clause-fault g c = λ ne.
+    let flux = flux_is (record { project = c.args.project; webs = c.args.webs.items }) _ _ _ c.room.ensures c.in-Ok.ensures.room c.fixtures.ensures.value _ _ (c.deref.ensures.value ∙ c.in-Ok-place_all.ensures.fixtures) c.deref-2.ensures.value in
+    let system = system_is (record { project = c.args.project; webs = c.args.webs.items }) _ _ _ c.room.ensures c.in-Ok.ensures.room c.fixtures.ensures.value _ c.threshold.ensures.value in
+    no_grid (record { project = c.args.project; webs = c.args.webs.items }) _ _ _ c.room.ensures c.in-Ok.ensures.room c.fixtures.ensures.value c.in-Ok.ensures.answer c.in-Ok-place_all.ensures.answer _ _
+    (c.in-Ok-make_system.ensures.system ∙ system) (c.deref-3.ensures.value ∙ (c.in-Ok-light_patches.ensures.flux ∙ flux)) _ c.checks.ensures.value c.in-Ok-test_limits.ensures _ (c.in-Err-lay_grids.ensures.answer ne)
+
 pub invariant_of-result : goal.invariant_of-result
 invariant_of-result g c =
     let flux = flux_is (record { project = c.args.project; webs = c.args.webs.items }) _ _ _ c.room.ensures c.in-Ok.ensures.room c.fixtures.ensures.value _ _ (c.deref.ensures.value ∙ c.in-Ok-place_all.ensures.fixtures) c.deref-2.ensures.value in
     let system = system_is (record { project = c.args.project; webs = c.args.webs.items }) _ _ _ c.room.ensures c.in-Ok.ensures.room c.fixtures.ensures.value _ c.threshold.ensures.value in
     record {
       accepted = all_passed (record { project = c.args.project; webs = c.args.webs.items }) _ _ _ c.room.ensures c.in-Ok.ensures.room c.fixtures.ensures.value c.in-Ok.ensures.answer c.in-Ok-place_all.ensures.answer _ _
-          (c.in-Ok-make_system.ensures.system ∙ system) (c.deref-3.ensures.value ∙ (c.in-Ok-light_patches.ensures.flux ∙ flux)) c.in-Ok-test_limits.ensures;
+          (c.in-Ok-make_system.ensures.system ∙ system) (c.deref-3.ensures.value ∙ (c.in-Ok-light_patches.ensures.flux ∙ flux)) _ c.checks.ensures.value c.in-Ok-test_limits.ensures c.in-Ok-lay_grids.ensures.answer;
       webs = c.requires;
       is_room = c.in-Ok.ensures.room ∙ c.room.ensures;
       are_fixtures = c.in-Ok-place_all.ensures.fixtures ∙ ap (map fixture_of) c.fixtures.ensures.value;
       placed = c.in-Ok-place_all.ensures.placed;
+      have_webs = webs_in_range _ _ _ _ c.in-Ok-place_all.ensures.fixtures c.fixtures.ensures.webs c.requires;
+      few = few_placed _ _ c.in-Ok-place_all.ensures.fixtures c.fixtures.ensures.few;
       is_system = c.in-Ok-make_system.ensures.system ∙ system;
       is_flux = c.in-Ok-light_patches.ensures.flux ∙ flux;
+      are_grids = c.in-Ok-lay_grids.ensures.grids ∙ (rw (c.in-Ok.ensures.room, c.room.ensures, c.checks.ensures.value) refl);
     }
 
 pub returns-clause-ok : goal.returns-clause-ok
@@ -51,4 +61,4 @@ returns-clause-ok g c =
     let flux = flux_is (record { project = c.args.project; webs = c.args.webs.items }) _ _ _ c.room.ensures c.in-Ok.ensures.room c.fixtures.ensures.value _ _ (c.deref.ensures.value ∙ c.in-Ok-place_all.ensures.fixtures) c.deref-2.ensures.value in
     let system = system_is (record { project = c.args.project; webs = c.args.webs.items }) _ _ _ c.room.ensures c.in-Ok.ensures.room c.fixtures.ensures.value _ c.threshold.ensures.value in
     all_passed (record { project = c.args.project; webs = c.args.webs.items }) _ _ _ c.room.ensures c.in-Ok.ensures.room c.fixtures.ensures.value c.in-Ok.ensures.answer c.in-Ok-place_all.ensures.answer _ _
-    (c.in-Ok-make_system.ensures.system ∙ system) (c.deref-3.ensures.value ∙ (c.in-Ok-light_patches.ensures.flux ∙ flux)) c.in-Ok-test_limits.ensures
+    (c.in-Ok-make_system.ensures.system ∙ system) (c.deref-3.ensures.value ∙ (c.in-Ok-light_patches.ensures.flux ∙ flux)) _ c.checks.ensures.value c.in-Ok-test_limits.ensures c.in-Ok-lay_grids.ensures.answer

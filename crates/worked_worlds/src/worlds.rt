@@ -1,12 +1,12 @@
 // Worlds of actors, event by event, and what an actor has in hand.
-ghost use Rattle.std.specs.Prelude.{◌≡◌, ◌≤◌, ◌^◌, nat_le, length, sum};
+ghost use Rattle.std.specs.Prelude.{◌≡◌, ◌<◌, ◌≤◌, ◌^◌, nat_le, IfOk, length, sum};
 ghost use Rattle.std.specs.List.{list_all};
 ghost use Rattle.flux_system.specs.System.{patches};
 ghost use Rattle.flux_system.specs.declared.TheConstants.{MOST_SEATS};
-ghost use Rattle.worked_examples.specs.declared.worlds.TheConstants.{MOST_BOOKED};
+ghost use Rattle.worked_worlds.specs.declared.worlds.TheConstants.{MOST_BOOKED};
 
 use flux_system::System;
-use shot_core::{Account, Event, Hand, Stepped, World};
+use shot_core::{Account, DeskAccount, Event, Hand, Stepped, World};
 use std::alloc::{AllocError, Global};
 use std::process::Abort;
 use std::test::Fail;
@@ -38,12 +38,10 @@ impl Trial {
         self.world.run(&self.system, events)
     }
 
-    fn words(&self, alloc: Global) -> Result<Vec<u64>, AllocError> {
-        let mut words = Vec::new(alloc);
-        for patch in 0..self.system.len() {
-            words.push(self.world.word(patch))?;
-        }
-        Ok(words)
+    fn word(&self, patch: usize) -> u64
+        requires { patch < patches self.now.system }
+    {
+        self.world.word(patch)
     }
 }
 
@@ -59,46 +57,105 @@ fn retire(actor: u32) -> Event {
     Event::Retire { actor }
 }
 
-#[test]
-fn one_actor_takes_gives_and_retires(rt: HostRuntime) -> Result<(), Fail> {
-    let alloc = rt.alloc();
-    let system = System::new(alloc, &[500, 500], &[0, 500_000_000, 500_000_000, 0], 10)?;
-    let mut trial = Trial::start(alloc, system, &[1_000, 0], 1)?;
-    assert_eq!(rt; trial.words(alloc)?.as_slice(), [1_000, 0].as_slice());
-    let events = [
+// The words of a world, patch by patch.
+fn assert_words(rt: &impl Abort, trial: &Trial, words: &[u64]) {
+    assert_eq!(rt; trial.system.len(), words.len());
+    for (patch, word) in words.iter().enumerate() {
+        assert!(rt; patch < trial.system.len());
+        assert_eq!(rt; trial.word(patch), *word);
+    }
+}
+
+// So many of the events happen, and leave these words.
+fn assert_run(rt: &impl Abort, trial: &mut Trial, events: &[Event], moved: u64, words: &[u64]) {
+    assert_eq!(rt; trial.run(events), moved);
+    assert_words(rt, trial, words);
+}
+
+fn assert_numbers(rt: &impl Abort, numbers: &[u64], expected: &[u64]) {
+    assert_eq!(rt; numbers, expected);
+}
+
+// What the desk's actors took, gave and left over at each patch, and its counts of accounts, takes and actors.
+fn assert_desk(
+    rt: &impl Abort,
+    desk: &DeskAccount,
+    taken: &[u64],
+    given: &[u64],
+    err: &[u64],
+    counts: (u32, u64, u32),
+) {
+    assert_numbers(rt, desk.taken.as_slice(), taken);
+    assert_numbers(rt, desk.given.as_slice(), given);
+    assert_numbers(rt, desk.err.as_slice(), err);
+    assert_eq!(rt; (desk.parts, desk.wins, desk.out), counts);
+}
+
+// A system of which nothing but its size is known, so that no proof of a test computes with its figures.
+fn system_of(
+    alloc: Global,
+    reflectance: &[u32],
+    shares: &[u32],
+    threshold: u64,
+) -> Result<System, Fail>
+    ensures { IfOk result (λ system. patches system ≡ length reflectance.now) }
+{
+    Ok(System::new(alloc, reflectance, shares, threshold)?)
+}
+
+// Two patches that each pass on a quarter of their flux to the other.
+fn two_patches(alloc: Global) -> Result<System, Fail>
+    ensures { IfOk result (λ system. patches system ≡ 2) }
+{
+    let shares = [0, 500_000_000, 500_000_000, 0];
+    system_of(alloc, &[500, 500], &shares, 10)
+}
+
+// A world of the two.
+fn small_trial(alloc: Global, direct: [u64; 2], seats: u32) -> Result<Trial, Fail>
+    requires flux { sum direct ≤ 10 ^ 16 }
+    requires seats { seats ≤ MOST_SEATS }
+{
+    let system = two_patches(alloc)?;
+    Ok(Trial::start(alloc, system, &direct, seats)?)
+}
+
+// A take before anyone is hired and a take of a dark patch are stuck; the others happen.
+fn events_of_one() -> [Event; 6] {
+    [
         take(0, 0),
         Event::Hire,
         take(0, 0),
         take(0, 1),
         give(0, 1),
         retire(0),
-    ];
-    assert_eq!(rt; trial.run(&events), 4);
-    assert_eq!(rt; trial.words(alloc)?.as_slice(), [0, 250].as_slice());
+    ]
+}
+
+#[test]
+fn one_actor_takes_gives_and_retires(rt: HostRuntime) -> Result<(), Fail> {
+    let alloc = rt.alloc();
+    let mut trial = small_trial(alloc, [1_000, 0], 1)?;
+    assert_words(&rt, &trial, &[1_000, 0]);
+    assert_run(&rt, &mut trial, &events_of_one(), 4, &[0, 250]);
     let desk = trial.world.desk();
-    assert_eq!(rt; desk.taken.as_slice(), [1_000, 0].as_slice());
-    assert_eq!(rt; desk.given.as_slice(), [0, 250].as_slice());
-    assert_eq!(rt; desk.err.as_slice(), [0, 0].as_slice());
-    assert_eq!(rt; (desk.parts, desk.wins, desk.out), (2, 1, 0));
+    assert_desk(&rt, desk, &[1_000, 0], &[0, 250], &[0, 0], (2, 1, 0));
     Ok(())
 }
 
 #[test]
 fn two_takes_are_in_one_hand(rt: HostRuntime) -> Result<(), Fail> {
     let alloc = rt.alloc();
-    let system = System::new(alloc, &[500, 500], &[0, 500_000_000, 500_000_000, 0], 10)?;
-    let mut trial = Trial::start(alloc, system, &[1_000, 1_000], 1)?;
+    let mut trial = small_trial(alloc, [1_000, 1_000], 1)?;
     let events = [Event::Hire, take(0, 0), take(0, 1), give(0, 0), give(0, 1)];
-    assert_eq!(rt; trial.run(&events), 5);
-    assert_eq!(rt; trial.words(alloc)?.as_slice(), [250, 250].as_slice());
+    assert_run(&rt, &mut trial, &events, 5, &[250, 250]);
     Ok(())
 }
 
 #[test]
 fn nobody_is_hired_without_a_seat(rt: HostRuntime) -> Result<(), Fail> {
     let alloc = rt.alloc();
-    let system = System::new(alloc, &[500, 500], &[0, 500_000_000, 500_000_000, 0], 10)?;
-    let mut trial = Trial::start(alloc, system, &[1_000, 0], 0)?;
+    let mut trial = small_trial(alloc, [1_000, 0], 0)?;
     assert_eq!(rt; trial.step(Event::Hire), Stepped::Stuck);
     assert_eq!(rt; trial.step(take(0, 0)), Stepped::Stuck);
     assert!(rt; trial.world.actor(0).is_none());
@@ -116,7 +173,7 @@ fn four_patches(alloc: Global) -> Result<Trial, Fail> {
     ] {
         shares.extend_from_slice(&row)?;
     }
-    let system = System::new(alloc, &[700, 350, 812, 949], shares.as_slice(), 100)?;
+    let system = system_of(alloc, &[700, 350, 812, 949], shares.as_slice(), 100)?;
     let direct = [100_003, 7_777, 54_321, 90];
     Ok(Trial::start(alloc, system, &direct, 3)?)
 }
@@ -181,35 +238,28 @@ struct Lists {
 }
 
 fn assert_lists(rt: &impl Abort, account: &Account, lists: &Lists) {
-    assert_eq!(rt; account.taken.as_slice(), lists.taken.as_slice());
-    assert_eq!(rt; account.given.as_slice(), lists.given.as_slice());
-    assert_eq!(rt; account.hand.amounts(), lists.hand.as_slice());
-    assert_eq!(rt; account.hand.fractions(), lists.fractions.as_slice());
+    assert_numbers(rt, account.taken.as_slice(), &lists.taken);
+    assert_numbers(rt, account.given.as_slice(), &lists.given);
+    assert_numbers(rt, account.hand.amounts(), &lists.hand);
+    assert_numbers(rt, account.hand.fractions(), &lists.fractions);
     assert!(rt; !account.is_retired);
 }
 
 // The accounts after both parts. The desk's fractions at patch 3 are more than a nanolumen together.
 fn assert_last_accounts(rt: &impl Abort, world: &World) -> Result<(), Fail> {
-    let desk = world.desk();
-    assert_eq!(rt;
-        desk.taken.as_slice(),
-        [100_003, 7_777, 54_321, 31_038].as_slice()
-    );
-    assert_eq!(rt;
-        desk.given.as_slice(),
-        [20_932, 30_697, 36_638, 48_591].as_slice()
-    );
-    assert_eq!(rt;
-        desk.err.as_slice(),
-        [
+    assert_desk(
+        rt,
+        world.desk(),
+        &[100_003, 7_777, 54_321, 31_038],
+        &[20_932, 30_697, 36_638, 48_591],
+        &[
             404_262_709_898,
             799_118_759_864,
             921_372_872_994,
-            1_034_082_511_150
-        ]
-        .as_slice()
+            1_034_082_511_150,
+        ],
+        (3, 4, 1),
     );
-    assert_eq!(rt; (desk.parts, desk.wins, desk.out), (3, 4, 1));
     assert!(rt; world.actor(0).ok_or("no actor")?.is_retired);
     assert!(rt; world.actor(1).ok_or("no actor")?.is_retired);
     let third = world.actor(2).ok_or("no actor")?;
@@ -233,20 +283,13 @@ fn assert_last_accounts(rt: &impl Abort, world: &World) -> Result<(), Fail> {
     Ok(())
 }
 
-// All words and accounts come from a program of the definitions in another language.
-#[test]
-fn three_actors_take_steps_or_are_stuck(rt: HostRuntime) -> Result<(), Fail> {
-    let alloc = rt.alloc();
-    let mut trial = four_patches(alloc)?;
-    for (event, answer) in first_part() {
-        assert_eq!(rt; trial.step(event), answer, "{event:?}");
-    }
-    assert_eq!(rt; trial.words(alloc)?.as_slice(), [0, 0, 0, 0].as_slice());
-    let desk = trial.world.desk();
+// The accounts after the first part: of the desk, and of the two actors with flux in hand.
+fn assert_first_accounts(rt: &impl Abort, world: &World) -> Result<(), Fail> {
+    let desk = world.desk();
     assert_eq!(rt; (desk.parts, desk.wins, desk.out), (1, 0, 3));
-    let first = trial.world.actor(0).ok_or("no actor")?;
+    let first = world.actor(0).ok_or("no actor")?;
     assert_lists(
-        &rt,
+        rt,
         first,
         &Lists {
             taken: [100_003, 7_777, 0, 0],
@@ -261,9 +304,9 @@ fn three_actors_take_steps_or_are_stuck(rt: HostRuntime) -> Result<(), Fail> {
         },
     );
     assert_eq!(rt; first.wins, 2);
-    let second = trial.world.actor(1).ok_or("no actor")?;
+    let second = world.actor(1).ok_or("no actor")?;
     assert_lists(
-        &rt,
+        rt,
         second,
         &Lists {
             taken: [0, 0, 54_321, 31_038],
@@ -278,28 +321,51 @@ fn three_actors_take_steps_or_are_stuck(rt: HostRuntime) -> Result<(), Fail> {
         },
     );
     assert_eq!(rt; second.wins, 2);
-    for (event, answer) in second_part() {
-        assert_eq!(rt; trial.step(event), answer, "{event:?}");
+    Ok(())
+}
+
+// Each event is answered so.
+fn assert_steps(rt: &impl Abort, trial: &mut Trial, steps: &[(Event, Stepped)]) {
+    for (event, answer) in steps {
+        assert_eq!(rt; trial.step(*event), *answer, "{event:?}");
     }
-    let words = trial.words(alloc)?;
-    assert_eq!(rt; words.as_slice(), [20_596, 30_697, 0, 17_643].as_slice());
+}
+
+// All words and accounts come from a program of the definitions in another language.
+#[test]
+fn three_actors_take_steps_or_are_stuck(rt: HostRuntime) -> Result<(), Fail> {
+    let alloc = rt.alloc();
+    let mut trial = four_patches(alloc)?;
+    assert_steps(&rt, &mut trial, &first_part());
+    assert_words(&rt, &trial, &[0, 0, 0, 0]);
+    assert_first_accounts(&rt, &trial.world)?;
+    assert_steps(&rt, &mut trial, &second_part());
+    assert_words(&rt, &trial, &[20_596, 30_697, 0, 17_643]);
     assert_last_accounts(&rt, &trial.world)
+}
+
+// Puts the events of some steps behind others.
+fn append(events: &mut Vec<Event>, steps: &[(Event, Stepped)]) -> Result<(), AllocError> {
+    for (event, _) in steps {
+        events.push(*event)?;
+    }
+    Ok(())
+}
+
+// The events of both parts.
+fn all_events(alloc: Global) -> Result<Vec<Event>, AllocError> {
+    let mut events = Vec::new(alloc);
+    append(&mut events, &first_part())?;
+    append(&mut events, &second_part())?;
+    Ok(events)
 }
 
 #[test]
 fn three_actors_run(rt: HostRuntime) -> Result<(), Fail> {
     let alloc = rt.alloc();
-    let mut events = Vec::new(alloc);
-    for (event, _) in first_part() {
-        events.push(event)?;
-    }
-    for (event, _) in second_part() {
-        events.push(event)?;
-    }
+    let events = all_events(alloc)?;
     let mut trial = four_patches(alloc)?;
-    assert_eq!(rt; trial.run(&events), 20);
-    let words = trial.words(alloc)?;
-    assert_eq!(rt; words.as_slice(), [20_596, 30_697, 0, 17_643].as_slice());
+    assert_run(&rt, &mut trial, &events, 20, &[20_596, 30_697, 0, 17_643]);
     assert_last_accounts(&rt, &trial.world)
 }
 
@@ -327,21 +393,18 @@ fn book(rt: &impl Abort, hand: &mut Hand, system: &System, patch: usize, t: u64)
 #[test]
 fn a_hand_pools_takes_until_it_is_cleared(rt: HostRuntime) -> Result<(), Fail> {
     let alloc = rt.alloc();
-    let system = System::new(alloc, &[500, 500], &[0, 500_000_000, 500_000_000, 0], 10)?;
+    let system = two_patches(alloc)?;
     let mut hand = Hand::new(alloc, system.len())?;
     assert!(rt; hand.is_empty());
     book(&rt, &mut hand, &system, 0, 25_000_000_000_000_001);
-    assert_eq!(rt; hand.amounts(), [0, 6_250_000_000_000_000].as_slice());
-    assert_eq!(rt; hand.fractions(), [0, 250_000_000_000].as_slice());
+    assert_numbers(&rt, hand.amounts(), &[0, 6_250_000_000_000_000]);
+    assert_numbers(&rt, hand.fractions(), &[0, 250_000_000_000]);
     book(&rt, &mut hand, &system, 0, 1_001);
     book(&rt, &mut hand, &system, 1, 3);
     assert!(rt; !hand.is_empty());
     assert_eq!(rt; hand.amounts().len(), 2);
     assert_eq!(rt; hand.clear(1), 6_250_000_000_000_250);
     assert!(rt; hand.is_empty());
-    assert_eq!(rt;
-        hand.fractions(),
-        [750_000_000_000, 500_000_000_000].as_slice()
-    );
+    assert_numbers(&rt, hand.fractions(), &[750_000_000_000, 500_000_000_000]);
     Ok(())
 }

@@ -2,7 +2,7 @@ use Rattle.std.proofs.Common.{◌≡◌, Option, Some, None, true, true≢false,
 use Rattle.std.specs.Prelude.{is_some}
 use Rattle.project_file.specs.Fields.{is_kind, table}
 use Rattle.project_file.proofs.Lists.{listed_at, all_at}
-use Rattle.project_file.proofs.luminaires.luminaire_table.Goals as goal
+use Rattle.project_file.proofs.sections.listed_table.Goals as goal
 
 not_none : {A : Type 0} (found : Option A) → None ≡ found → is_some found ≡ true → ⊥
 not_none None none some = true≢false (sym some)

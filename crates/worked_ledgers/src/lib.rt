@@ -1,0 +1,14 @@
+//! Worked examples of settled ledgers and their texts, of the intervals that they give, and of the exact solution.
+//!
+//! This crate has tests alone. The expected values come from calculations by hand or by other programs, and never from
+//! this one.
+#![tactic(auto)]
+
+#[cfg(test)]
+mod exact;
+#[cfg(test)]
+mod intervals;
+#[cfg(test)]
+mod ledgers;
+#[cfg(test)]
+mod systems;

@@ -1,0 +1,4 @@
+pub mod Accepted
+pub mod Luminaires
+pub mod NumberZero
+pub mod Validity
