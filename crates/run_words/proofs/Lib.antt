@@ -1,0 +1,9 @@
+pub mod WordKinds
+pub mod PlainValues
+pub mod PlainWords
+pub mod PlainRule
+pub mod NoRuns
+pub mod Clap
+pub mod ClapRows
+pub mod ClapWalk
+pub mod Agreement

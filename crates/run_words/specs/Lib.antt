@@ -1,0 +1,3 @@
+pub mod ShooterCounts
+pub mod RunWords
+pub mod Shapes
