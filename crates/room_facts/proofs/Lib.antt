@@ -1,0 +1,2 @@
+pub mod NumberedPoints
+pub mod Truths

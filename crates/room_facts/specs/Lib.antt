@@ -1,0 +1,3 @@
+pub mod RoomFacts
+pub mod Shapes
+pub mod Truth
