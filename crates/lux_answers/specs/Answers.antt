@@ -1,15 +1,9 @@
 -- The exit status and the cause of each answer. A new answer adds a line to each table.
 use Rattle.std.specs.Prelude.{ℕ, List}
+use Rattle.compliance.specs.Worst.{status_of_worst}
 use Rattle.lux_answers.specs.declared.answers.Answer.{Answer}
 use Rattle.lux_answers.specs.declared.answers.Answer.TheVariants.{Done, Usage, Read, TooLong, Project, Room, Fixture, Grid, System, Photometry, Limits, Write, Memory}
-use Rattle.lux_answers.specs.declared.answers.Worst.{Worst}
-use Rattle.lux_answers.specs.declared.answers.Worst.TheVariants.{AllPass, SomeFail, SomeUndecided}
 use Rattle.lux_answers.specs.declared.answers.Outcome.{Outcome}
-
-abbrev pub status_of_worst : Worst → ℕ
-status_of_worst AllPass = 0
-status_of_worst SomeFail = 1
-status_of_worst SomeUndecided = 2
 
 abbrev pub status_of : Answer → ℕ
 status_of (Done ledger worst) = status_of_worst worst

@@ -3,6 +3,7 @@ ghost use Rattle.std.specs.Prelude.{◌≡◌};
 ghost use Rattle.lux_answers.specs.Answers.{outcome_of, status_of};
 ghost use Rattle.lux_answers.specs.declared.answers.Answer.TheVariants.{Memory};
 
+use compliance::Worst;
 use eulumdat_reader::LdtFault;
 use fixtures::FixtureFault;
 use flux_ledger::Ledger;
@@ -15,14 +16,6 @@ use room_patches::RoomFault;
 use std::alloc::AllocFailed;
 use system_file::SysFault;
 use thiserror::Error;
-
-/// What the verdicts of a run come to. Without verdicts it is `AllPass`.
-#[derive(Clone, Copy, Debug, PartialEq, Eq)]
-pub enum Worst {
-    AllPass,
-    SomeFail,
-    SomeUndecided,
-}
 
 /// Why a file is no photometry: the fault of the format that it is in.
 #[derive(Clone, Copy, Debug, PartialEq, Eq, Error)]
@@ -100,11 +93,7 @@ impl Answer {
         ensures { result ≡ status_of self.now }
     {
         match self {
-            Answer::Done { worst, .. } => match worst {
-                Worst::AllPass => 0,
-                Worst::SomeFail => 1,
-                Worst::SomeUndecided => 2,
-            },
+            Answer::Done { worst, .. } => worst.status(),
             Answer::Usage => 3,
             Answer::Project(_)
             | Answer::Room(_)

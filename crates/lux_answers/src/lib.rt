@@ -9,4 +9,4 @@ mod answers;
 mod fault_notes;
 mod notes;
 
-pub use answers::{Answer, Outcome, PhotoFault, Worst};
+pub use answers::{Answer, Outcome, PhotoFault};

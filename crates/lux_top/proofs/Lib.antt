@@ -5,4 +5,5 @@ pub mod SolveRows
 pub mod PhotoRows
 pub mod RunRows
 pub mod CommandLines
+pub mod GenerateRows
 pub mod Limited

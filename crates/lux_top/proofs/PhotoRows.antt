@@ -7,7 +7,7 @@ use Rattle.photo_web.specs.declared.photometry.Photometry.{Photometry}
 use Rattle.lux_answers.specs.declared.answers.Answer.{Answer}
 use Rattle.lux_answers.specs.declared.answers.Answer.TheVariants as answer
 use Rattle.lux_answers.specs.declared.answers.Outcome.{Outcome}
-use Rattle.lux_answers.specs.declared.answers.Worst.TheVariants.{AllPass}
+use Rattle.compliance.specs.declared.verdicts.Worst.TheVariants.{AllPass}
 use Rattle.lux_answers.specs.Notes.{PutsNote}
 use Rattle.lux_plans.specs.Plans.{Decides, Unread}
 use Rattle.lux_plans.specs.Runs.{World, Runs}

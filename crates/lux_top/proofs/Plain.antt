@@ -9,13 +9,15 @@ use Rattle.lux_answers.specs.Answers.{cause_of}
 use Rattle.lux_answers.specs.declared.answers.Answer.TheVariants as answer
 use Rattle.lux_plans.specs.Plans.{Give, each}
 use Rattle.lux_plans.proofs.Caused.{IsPlain, IsAny, IsSuccess, NeedsNothing, plain_accept, plain_then, plain_file, plain_each}
+use Rattle.run_words.specs.declared.readings.RunWords.{RunWords}
 use Rattle.lux_top.specs.declared.commands.Command.{Command}
-use Rattle.lux_top.specs.declared.commands.Command.TheVariants.{Solve, Photo, Run}
+use Rattle.lux_top.specs.declared.commands.Command.TheVariants.{Solve, Photo, Run, Generate}
+use Rattle.lux_top.specs.GenerateCommand.{generated_lighting, summary_of, generate_plan}
 use Rattle.lux_top.specs.PhotoCommand.{photometry_output, photo_plan}
 use Rattle.lux_top.specs.PhotometryFiles.{photometry_in, photometry_refusal, photometry_file, most_photometry_bytes}
 use Rattle.lux_top.specs.ProjectFiles.{most_project_bytes, project_file, web_file, lit_project, lit_room, lit_room_file, light_refusal}
-use Rattle.lux_top.specs.RunCommand.{problem_of, run_plan}
-use Rattle.lux_top.specs.Settlements.{settlement, crew_settlement}
+use Rattle.lux_top.specs.RunCommand.{run_plan, crew_report}
+use Rattle.lux_top.specs.Settlements.{settlement}
 use Rattle.lux_top.specs.SolveCommand.{solve_plan}
 use Rattle.lux_top.specs.SystemFiles.{most_system_bytes, problem_in_limits, within_limits, system_file, problem_file}
 use Rattle.lux_top.specs.Commands.{plan_of}
@@ -54,11 +56,16 @@ plain_lit_room name =
     plain_then IsAny IsAny (project_file name) lit_project (plain_file name most_project_bytes project_of answer.Project (λ fault. tt))
     (λ project any. plain_lit_project project)
 
-pub plain_run : (name : List ℕ) (shooters : ℕ) → IsPlain IsSuccess (run_plan name shooters)
-plain_run name shooters = plain_then IsAny IsSuccess (lit_room_file name) (λ lighting. crew_settlement shooters (problem_of lighting)) (plain_lit_room name) (λ lighting any. λ ledger. refl)
+pub plain_run : (words : RunWords) → IsPlain IsSuccess (run_plan words)
+plain_run words = plain_then IsAny IsSuccess (lit_room_file words.project) (crew_report words.form words.shooters) (plain_lit_room words.project) (λ lighting any. λ ledger. refl)
+
+pub plain_generate : (number : ℕ) → IsPlain IsSuccess (generate_plan number)
+plain_generate number =
+    plain_then IsAny IsSuccess (lit_room (generated_lighting number)) (summary_of number) (plain_accept (lit_room_of (generated_lighting number)) light_refusal plain_light) (λ lighting any. λ ledger. refl)
 
 pub plain_plan : (command : Option Command) → IsPlain IsSuccess (plan_of command)
 plain_plan None = tt
 plain_plan (Some (Solve name)) = plain_solve name
 plain_plan (Some (Photo name)) = plain_photo name
-plain_plan (Some (Run name shooters)) = plain_run name shooters
+plain_plan (Some (Run words)) = plain_run words
+plain_plan (Some (Generate number)) = plain_generate number

@@ -12,7 +12,7 @@ use Rattle.lux_answers.specs.declared.answers.Answer.{Answer}
 use Rattle.lux_answers.specs.declared.answers.Answer.TheVariants as answer
 use Rattle.lux_answers.specs.declared.answers.Outcome.{Outcome}
 use Rattle.lux_answers.specs.Notes.{PutsNote}
-use Rattle.lux_plans.specs.Plans.{Give, Decides, Unread, each}
+use Rattle.lux_plans.specs.Plans.{Give, Decides, Unread, and_then, each}
 use Rattle.lux_plans.specs.Runs.{World, Runs}
 use Rattle.lux_plans.specs.Writings.{Writing}
 use Rattle.lux_plans.proofs.Parts.{given_parts, refused_parts, accepted_is, refused_is}
@@ -21,9 +21,11 @@ use Rattle.lux_plans.proofs.Steps.{first_given, refused_step}
 use Rattle.lux_top.specs.PhotoCommand.{PhotoRefusal}
 use Rattle.lux_top.specs.PhotometryFiles.{photometry_in, photometry_file, most_photometry_bytes}
 use Rattle.lux_top.specs.ProjectFiles.{project_file, most_project_bytes, web_file, lit_room, lit_project, lit_room_file, light_refusal, IsFileProject, IsFileWeb, AreFileWebs, IsFileLitRoom, IsNextOf}
-use Rattle.lux_top.specs.RunCommand.{problem_of, run_plan, IsRoomLedger, RunRefusal, RunRow, SolvesProject, SolvesProjectInPart}
+use Rattle.lux_top.specs.RunCommand.{problem_of, run_plan, crew_report, report_writing, IsRoomLedger, RunRefusal, RunRow, SolvesProject, SolvesProjectInPart}
 use Rattle.flux_ledger.specs.declared.ledger.Ledger.{Ledger}
-use Rattle.lux_top.specs.Settlements.{IsSolvedBy, IsCrewLedger, crew_settlement, settled_writing}
+use Rattle.lux_top.specs.Settlements.{IsSolvedBy}
+use Rattle.run_words.specs.declared.readings.RunWords.{RunWords}
+use Rattle.run_words.specs.declared.report_forms.ReportForm.{ReportForm}
 use Rattle.lux_top.proofs.Plain.{plain_run}
 use Rattle.lux_top.proofs.PhotoRows.{photometry_is, file_reason}
 use Rattle.lux_top.proofs.Reading.{file_says, file_refuses}
@@ -112,13 +114,13 @@ module _ (name : List ℕ) (before after : ShelfState) where
     ]
 
   -- why a project is refused
-  reason : (shooters : ℕ) (refusal : Answer) → Decides (run_plan name shooters) before after (Err refusal) → RunRefusal name before after refusal
-  reason shooters refusal h = elim (refused_parts (lit_room_file name) (λ lighting. crew_settlement shooters (problem_of lighting)) before after refusal h) [
+  reason : (form : ReportForm) (shooters : ℕ) (refusal : Answer) → Decides (and_then (lit_room_file name) (crew_report form shooters)) before after (Err refusal) → RunRefusal name before after refusal
+  reason form shooters refusal h = elim (refused_parts (lit_room_file name) (crew_report form shooters) before after refusal h) [
     | inl first ↦ elim (refused_parts (project_file name) lit_project before after refusal first) [
       | inl of_file ↦ project_reason refusal of_file
       | inr parts ↦ lit_reason parts.0 (project_is parts.0 parts.1) refusal parts.2
     ]
-    | inr parts ↦ absurd (never_refused (problem_of parts.0) before after (IsCrewLedger shooters (problem_of parts.0)) refusal parts.2)
+    | inr parts ↦ absurd (never_refused (report_writing form shooters parts.0) before after (IsRoomLedger shooters parts.0) refusal parts.2)
   ]
 
   -- the lit room of a file
@@ -135,17 +137,18 @@ module _ (name : List ℕ) (before after : ShelfState) where
       } in
       subst (λ (l : Lighting). IsFileLitRoom before name l) (sym is) of_itself
 
-module _ (name : List ℕ) (shooters : ℕ) (before after : World) where
-  -- what was solved, and its text
-  solved : (writing : Writing) → Decides (run_plan name shooters) before.shelf after.shelf (Ok writing)
-      → (lighting : Lighting) × (ledger : Ledger) × IsSolvedBy (IsFileLitRoom before.shelf name) problem_of (IsRoomLedger shooters) lighting ledger × (writing ≡ settled_writing (problem_of lighting) ledger)
+module _ (words : RunWords) (before after : World) where
+  -- what was solved, and the report on it
+  solved : (writing : Writing) → Decides (run_plan words) before.shelf after.shelf (Ok writing)
+      → (lighting : Lighting) × (ledger : Ledger) × IsSolvedBy (IsFileLitRoom before.shelf words.project) problem_of (IsRoomLedger words.shooters) lighting ledger
+      × (writing ≡ report_writing words.form words.shooters lighting ledger)
   solved writing h =
-      let parts = given_parts (lit_room_file name) (λ lighting. crew_settlement shooters (problem_of lighting)) before.shelf after.shelf writing h in
-      let said = lit_room_is name before.shelf before.shelf parts.0 parts.1 in
-      let settled = settlement_is (problem_of parts.0) before.shelf after.shelf (IsCrewLedger shooters (problem_of parts.0)) writing parts.2 in
+      let parts = given_parts (lit_room_file words.project) (crew_report words.form words.shooters) before.shelf after.shelf writing h in
+      let said = lit_room_is words.project before.shelf before.shelf parts.0 parts.1 in
+      let settled = settlement_is (report_writing words.form words.shooters parts.0) before.shelf after.shelf (IsRoomLedger words.shooters parts.0) writing parts.2 in
       (parts.0, settled.0, record { is_said = said; within_limits = within_limits parts.0 said.accepted; is_ledger = settled.1 }, settled.2)
 
-  completes : (writing : Writing) → Decides (run_plan name shooters) before.shelf after.shelf (Ok writing) → Wrote before.out after.out writing.bytes → after.notes ≡ before.notes → SolvesProject name shooters before after writing.answer
+  completes : (writing : Writing) → Decides (run_plan words) before.shelf after.shelf (Ok writing) → Wrote before.out after.out writing.bytes → after.notes ≡ before.notes → SolvesProject words before after writing.answer
   completes writing h wrote same = let by = solved writing h in record {
     value = by.0;
     ledger = by.1;
@@ -155,7 +158,7 @@ module _ (name : List ℕ) (shooters : ℕ) (before after : World) where
     no_note = same;
   }
 
-  cuts_off : (writing : Writing) → Decides (run_plan name shooters) before.shelf after.shelf (Ok writing) → WroteSome before.out after.out writing.bytes → PutsNote answer.Write before.notes after.notes → SolvesProjectInPart name shooters before after
+  cuts_off : (writing : Writing) → Decides (run_plan words) before.shelf after.shelf (Ok writing) → WroteSome before.out after.out writing.bytes → PutsNote answer.Write before.notes after.notes → SolvesProjectInPart words before after
   cuts_off writing h some noted = let by = solved writing h in record {
     value = by.0;
     ledger = by.1;
@@ -165,7 +168,7 @@ module _ (name : List ℕ) (shooters : ℕ) (before after : World) where
   }
 
   -- the row of each answer
-  pub run_row : (outcome : Outcome) → Runs (run_plan name shooters) before after outcome → RunRow name shooters before after outcome.answer
+  pub run_row : (outcome : Outcome) → Runs (run_plan words) before after outcome → RunRow words before after outcome.answer
   run_row outcome runs =
-      row_of (run_plan name shooters) (SolvesProject name shooters before after) (SolvesProjectInPart name shooters before after) (RunRefusal name before.shelf after.shelf) before after (plain_run name shooters)
-      (record { completes = completes; cuts_off = cuts_off; reasons = reason name before.shelf after.shelf shooters; memory = tt }) outcome runs
+      row_of (run_plan words) (SolvesProject words before after) (SolvesProjectInPart words before after) (RunRefusal words.project before.shelf after.shelf) before after (plain_run words)
+      (record { completes = completes; cuts_off = cuts_off; reasons = reason words.project before.shelf after.shelf words.form words.shooters; memory = tt }) outcome runs

@@ -60,7 +60,7 @@ module _ (name : List ℕ) (before after : ShelfState) where
             judged_refuses (limit_duties parts.0.0 parts.0.1) parts.0 refused.0 refused.1,
           )
     ]
-    | inr parts ↦ absurd (never_refused parts.0 before after (IsSettledLedger parts.0) answer parts.2)
+    | inr parts ↦ absurd (never_refused (settled_writing parts.0) before after (IsSettledLedger parts.0) answer parts.2)
   ]
 
 module _ (name : List ℕ) (before after : World) where
@@ -70,7 +70,7 @@ module _ (name : List ℕ) (before after : World) where
   solved writing h =
       let parts = given_parts (problem_file name) settlement before.shelf after.shelf writing h in
       let problem = problem_is name before.shelf before.shelf parts.0 parts.1 in
-      let settled = settlement_is parts.0 before.shelf after.shelf (IsSettledLedger parts.0) writing parts.2 in
+      let settled = settlement_is (settled_writing parts.0) before.shelf after.shelf (IsSettledLedger parts.0) writing parts.2 in
       (parts.0, settled.0, record { is_said = problem.0; within_limits = problem.1; is_ledger = settled.1 }, settled.2)
 
   completes : (writing : Writing) → Decides (solve_plan name) before.shelf after.shelf (Ok writing) → Wrote before.out after.out writing.bytes → after.notes ≡ before.notes → SolvesFile name before after writing.answer

@@ -1,9 +1,10 @@
 pub mod Commands
+pub mod GenerateCommand
 pub mod PhotoCommand
 pub mod PhotometryFiles
 pub mod ProjectFiles
+pub mod ProjectNumbers
 pub mod RunCommand
 pub mod Settlements
-pub mod ShooterCounts
 pub mod SolveCommand
 pub mod SystemFiles

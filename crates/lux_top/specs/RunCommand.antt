@@ -1,6 +1,8 @@
--- `run PROJECT [--shooters N]`: a project and the photometry of its luminaires are read, its room is lit, its flux shot by so many
--- shooters and then settled, and what is exact enclosed.
-use Rattle.std.specs.Prelude.{◌≡◌, ℕ, List, Err}
+-- `run PROJECT [--shooters N] [--csv]`: a project and the photometry of its luminaires are read, its room is lit, its flux shot by so
+-- many shooters and then settled, what is exact enclosed, its checks judged, and all of it reported.
+use Rattle.std.specs.Prelude.{◌≡◌, ℕ, List, Some, Err}
+use Rattle.compliance.specs.declared.verdicts.Worst.{Worst}
+use Rattle.compliance.specs.Worst.{verdicts_of, worst_of}
 use Rattle.flux_ledger.specs.declared.ledger.Ledger.{Ledger}
 use Rattle.lit_room.specs.LitRooms.{Lighting, system_of, flux_of, lit_room_of}
 use Rattle.lit_room.specs.declared.faults.LightFault.{LightFault}
@@ -9,21 +11,50 @@ use Rattle.lux_io.specs.Shelves.{ShelfState, IsFile}
 use Rattle.project_file.specs.Projects.{project_of}
 use Rattle.lux_answers.specs.declared.answers.Answer.{Answer}
 use Rattle.lux_answers.specs.declared.answers.Answer.TheVariants as answer
-use Rattle.lux_plans.specs.Plans.{Plan, Unread, and_then}
+use Rattle.lux_plans.specs.Plans.{Plan, Give, Choose, Unread, and_then}
 use Rattle.lux_plans.specs.Runs.{World, Row}
 use Rattle.lux_plans.specs.Writings.{Writing}
+use Rattle.lux_report.specs.Report.{report_text, report_csv}
+use Rattle.room_facts.specs.RoomFacts.{answers_of, facts_of}
+use Rattle.room_facts.specs.Truth.{AreTrue}
+use Rattle.run_words.specs.declared.readings.RunWords.{RunWords}
+use Rattle.run_words.specs.declared.report_forms.ReportForm.{ReportForm}
+use Rattle.run_words.specs.declared.report_forms.ReportForm.TheVariants.{Text, Csv}
 use Rattle.lux_top.specs.PhotometryFiles.{photometry_in, most_photometry_bytes}
 use Rattle.lux_top.specs.ProjectFiles.{lit_room_file, most_project_bytes, IsFileLighting, IsFileLitRoom, IsNextFile, IsNextPhotometry}
-use Rattle.lux_top.specs.Settlements.{IsCrewLedger, IsSolved, IsCutOff, crew_settlement, ledger_with_intervals, no_verdict}
+use Rattle.lux_top.specs.Settlements.{IsCrewLedger, IsSolved, IsCutOff}
 use Rattle.lux_top.specs.SystemFiles.{Problem}
 
 -- the flux system of a lit room, and the direct flux of its luminaires
 abbrev pub problem_of : Lighting → Problem
 problem_of lighting = (system_of lighting, flux_of lighting)
 
+-- A ledger that so many shooters leave of a lit room, and what it says is true: its intervals enclose the exact flux of each patch and
+-- the exact light at each point of the checks, and a pass or a fail is the exact verdict.
+pub record IsRoomLedger (shooters : ℕ) (lighting : Lighting) (ledger : Ledger) : Type 0 where
+  pub is_crew_ledger : IsCrewLedger shooters (problem_of lighting) ledger
+  pub true_facts : AreTrue lighting (facts_of lighting shooters ledger)
+
+-- the report on it
+abbrev pub report_bytes : ReportForm → ℕ → Lighting → Ledger → List ℕ
+report_bytes Text shooters lighting ledger = report_text lighting.project ledger (facts_of lighting shooters ledger)
+report_bytes Csv shooters lighting ledger = report_csv lighting.project ledger (facts_of lighting shooters ledger)
+
+-- what the verdicts on the checks come to
+abbrev pub worst_verdict : Lighting → Ledger → Worst
+worst_verdict lighting ledger = worst_of (verdicts_of (answers_of lighting ledger))
+
+-- what is written of it
+abbrev pub report_writing : ReportForm → ℕ → Lighting → Ledger → Writing
+report_writing form shooters lighting ledger = record { answer = answer.Done (Some ledger) (worst_verdict lighting ledger); bytes = report_bytes form shooters lighting ledger }
+
+-- some ledger that so many shooters leave of a lit room, and the report on it: which one it is may depend on who took what when
+abbrev pub crew_report : ReportForm → ℕ → Lighting → Plan Writing
+crew_report form shooters lighting = Choose (IsRoomLedger shooters lighting) (λ ledger. Give (report_writing form shooters lighting ledger))
+
 -- what it reads, and what it then writes
-abbrev pub run_plan : List ℕ → ℕ → Plan Writing
-run_plan name shooters = and_then (lit_room_file name) (λ lighting. crew_settlement shooters (problem_of lighting))
+abbrev pub run_plan : RunWords → Plan Writing
+run_plan words = and_then (lit_room_file words.project) (crew_report words.form words.shooters)
 
 -- the file says a project and webs that are no lit room, for this reason
 pub record IsUnlit (shelf : ShelfState) (name : List ℕ) (fault : LightFault) : Type 0 where
@@ -46,20 +77,16 @@ RunRefusal name before after (answer.Grid check fault) = IsUnlit before name (li
 RunRefusal name before after answer.Memory = Unit {0}
 RunRefusal name before after _ = ⊥
 
--- a ledger that so many shooters leave of a lit room, and its text
-abbrev pub IsRoomLedger : ℕ → Lighting → Ledger → Type 0
-IsRoomLedger shooters lighting ledger = IsCrewLedger shooters (problem_of lighting) ledger
+-- the file's lit room was solved, and all or a part of the report was written
+abbrev pub SolvesProject : RunWords → World → World → Answer → Type 0
+SolvesProject words before after =
+    IsSolved (IsFileLitRoom before.shelf words.project) problem_of (IsRoomLedger words.shooters) worst_verdict (report_bytes words.form words.shooters) before after
 
-abbrev pub room_text : Lighting → Ledger → List ℕ
-room_text lighting ledger = ledger_with_intervals (system_of lighting) ledger
-
--- the file's lit room was solved, and all or a part of its text was written
-abbrev pub SolvesProject : List ℕ → ℕ → World → World → Answer → Type 0
-SolvesProject name shooters before after = IsSolved (IsFileLitRoom before.shelf name) problem_of (IsRoomLedger shooters) no_verdict room_text before after
-
-abbrev pub SolvesProjectInPart : List ℕ → ℕ → World → World → Type 0
-SolvesProjectInPart name shooters before after = IsCutOff (IsFileLitRoom before.shelf name) problem_of (IsRoomLedger shooters) room_text before after
+abbrev pub SolvesProjectInPart : RunWords → World → World → Type 0
+SolvesProjectInPart words before after =
+    IsCutOff (IsFileLitRoom before.shelf words.project) problem_of (IsRoomLedger words.shooters) (report_bytes words.form words.shooters) before after
 
 -- when each answer comes
-abbrev pub RunRow : List ℕ → ℕ → World → World → Answer → Type 0
-RunRow name shooters before after = Row (SolvesProject name shooters before after) (SolvesProjectInPart name shooters before after) (RunRefusal name before.shelf after.shelf) before after
+abbrev pub RunRow : RunWords → World → World → Answer → Type 0
+RunRow words before after =
+    Row (SolvesProject words before after) (SolvesProjectInPart words before after) (RunRefusal words.project before.shelf after.shelf) before after

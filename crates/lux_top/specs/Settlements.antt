@@ -1,5 +1,8 @@
--- A problem that is settled, on one thread or by a crew of shooters: its ledger, with the interval of each patch, as text.
+-- A problem that is settled, on one thread or by a crew of shooters: its ledger, and on one thread its text with the interval of each
+-- patch.
 use Rattle.std.specs.Prelude.{◌≡◌, ℕ, ◌+◌, ◌++◌, List, Some}
+use Rattle.compliance.specs.declared.verdicts.Worst.{Worst}
+use Rattle.compliance.specs.declared.verdicts.Worst.TheVariants.{AllPass}
 use Rattle.enclosure.specs.Interval.{intervals_of, EnclosesAll}
 use Rattle.flux_ledger.specs.Balance.{IsBalanced, IsFinished, IsPaid}
 use Rattle.flux_ledger.specs.IntervalLines.{interval_lines}
@@ -10,8 +13,6 @@ use Rattle.lux_io.specs.Sinks.{Wrote, WroteSome}
 use Rattle.shot_core.specs.Settling.{settled_ledger, untouched_ledger}
 use Rattle.lux_answers.specs.declared.answers.Answer.{Answer}
 use Rattle.lux_answers.specs.declared.answers.Answer.TheVariants.{Done, Write}
-use Rattle.lux_answers.specs.declared.answers.Worst.{Worst}
-use Rattle.lux_answers.specs.declared.answers.Worst.TheVariants.{AllPass}
 use Rattle.lux_answers.specs.Notes.{PutsNote}
 use Rattle.lux_plans.specs.Plans.{Plan, Give, Choose}
 use Rattle.lux_plans.specs.Runs.{World}
@@ -49,11 +50,6 @@ settled_writing problem ledger = record { answer = Done (Some ledger) AllPass; b
 -- the settled ledger of a problem within the limits, and its text with its intervals
 abbrev pub settlement : Problem → Plan Writing
 settlement problem = Choose (IsSettledLedger problem) (λ ledger. Give (settled_writing problem ledger))
-
--- some ledger that so many shooters leave of a problem within the limits, and its text with its intervals: which one it is may
--- depend on who took what when
-abbrev pub crew_settlement : ℕ → Problem → Plan Writing
-crew_settlement shooters problem = Choose (IsCrewLedger shooters problem) (λ ledger. Give (settled_writing problem ledger))
 
 -- this ledger is of a value that is said, whose problem is within the limits, and the fact holds of it
 pub record IsSolvedBy {P : Type 0} (Says : P → Type 0) (problem_of : P → Problem) (IsLedger : P → Ledger → Type 0) (value : P) (ledger : Ledger) : Type 0 where

@@ -1,16 +1,14 @@
 // What the words of a command line ask for.
 ghost use Rattle.std.specs.Prelude.{◌≡◌, map, IfOk, string_bytes};
-ghost use Rattle.lux_words.specs.Words.{only_operand};
-ghost use Rattle.lux_top.specs.Commands.{command_of, run_of, shooters_of};
+ghost use Rattle.lux_words.specs.Words.{no_options, only_operand};
+ghost use Rattle.lux_top.specs.Commands.{command_of, number_in, number_of};
 
-use crate::shooter_counts::ShooterCount;
+use crate::project_numbers::ProjectNumber;
 use lux_io::Name;
 use lux_lines::numeral;
-use lux_words::{Options, operands, setting, word};
+use lux_words::{Options, operands, word};
+use run_words::{RunWords, read_run};
 use std::alloc::{AllocError, Global};
-
-// The option of `run` whose value is the number of its shooters.
-const SHOOTERS: &str = "--shooters";
 
 /// A command with its values.
 #[derive(Debug, Drop)]
@@ -19,20 +17,17 @@ pub enum Command {
     Solve(Name),
     /// `photo FILE`
     Photo(Name),
-    /// `run PROJECT [--shooters N]`
-    Run(Name, ShooterCount),
+    /// `run PROJECT [--shooters N] [--csv]`
+    Run(RunWords),
+    /// `gen NUMBER`
+    Generate(ProjectNumber),
 }
 
-// The only operand of a command, where the words are this command with one.
-fn only_operand(
-    alloc: Global,
-    words: &[String],
-    keyword: &str,
-    options: &Options,
-) -> Result<Option<Name>, AllocError>
-    ensures { IfOk result (λ name. name ≡ only_operand keyword.now options.now (map string_bytes words.now)) }
+// The only operand of a command without options, where the words are this command with one.
+fn only_operand(alloc: Global, words: &[String], keyword: &str) -> Result<Option<Name>, AllocError>
+    ensures { IfOk result (λ name. name ≡ only_operand keyword.now no_options (map string_bytes words.now)) }
 {
-    let Some(places) = operands(alloc, words, keyword, options)? else {
+    let Some(places) = operands(alloc, words, keyword, &Options::none())? else {
         return Ok(None);
     };
     if places.len() != 1 {
@@ -48,39 +43,33 @@ fn only_operand(
 pub fn read_words(alloc: Global, words: &[String]) -> Result<Option<Command>, AllocError>
     ensures { IfOk result (λ command. command ≡ command_of (map string_bytes words.now)) }
 {
-    let none = Options::none();
-    if let Some(name) = only_operand(alloc, words, "solve", &none)? {
+    if let Some(name) = only_operand(alloc, words, "solve")? {
         return Ok(Some(Command::Solve(name)));
     }
-    if let Some(name) = only_operand(alloc, words, "photo", &none)? {
+    if let Some(name) = only_operand(alloc, words, "photo")? {
         return Ok(Some(Command::Photo(name)));
     }
-    read_run(alloc, words)
-}
-
-// The command `run` that the words are, or none.
-fn read_run(alloc: Global, words: &[String]) -> Result<Option<Command>, AllocError>
-    ensures { IfOk result (λ command. command ≡ run_of (map string_bytes words.now)) }
-{
-    let options = Options {
-        flags: &[],
-        settings: &[SHOOTERS],
-    };
-    let Some(name) = only_operand(alloc, words, "run", &options)? else {
-        return Ok(None);
-    };
-    let Some(shooters) = read_shooters(words) else {
-        return Ok(None);
-    };
-    Ok(Some(Command::Run(name, shooters)))
-}
-
-// How many shooters the words ask for, or none where the option's value is no such number.
-fn read_shooters(words: &[String]) -> Option<ShooterCount>
-    ensures { result ≡ shooters_of (map string_bytes words.now) }
-{
-    match setting(words, SHOOTERS) {
-        Some(value) => ShooterCount::new(numeral(value.as_bytes())?),
-        None => Some(ShooterCount::default()),
+    if let Some(run) = read_run(alloc, words)? {
+        return Ok(Some(Command::Run(run)));
     }
+    match read_number(alloc, words)? {
+        Some(number) => Ok(Some(Command::Generate(number))),
+        None => Ok(None),
+    }
+}
+
+// The number of a project, where the words are the command that generates it.
+fn read_number(alloc: Global, words: &[String]) -> Result<Option<ProjectNumber>, AllocError>
+    ensures { IfOk result (λ number. number ≡ number_of (map string_bytes words.now)) }
+{
+    let Some(word) = only_operand(alloc, words, "gen")? else {
+        return Ok(None);
+    };
+    Ok(number_in(word.as_str()))
+}
+
+fn number_in(word: &str) -> Option<ProjectNumber>
+    ensures { result ≡ number_in word.now }
+{
+    ProjectNumber::new(numeral(word.as_bytes())?)
 }

@@ -4,12 +4,12 @@ ghost use Rattle.flux_system.specs.System.{patches};
 ghost use Rattle.flux_ledger.specs.Balance.{IsBalanced, IsFinished, IsPaid};
 ghost use Rattle.picker.specs.Picks.{IsPick};
 
-use crate::shooter_counts::ShooterCount;
 use crew::Crew;
 use flux_ledger::Ledger;
 use flux_system::System;
 use lux_io::Gate;
 use picker::{Picker, greatest, striped};
+use run_words::ShooterCount;
 use std::alloc::{AllocError, Global};
 use std::thread::Threads;
 

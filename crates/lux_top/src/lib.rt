@@ -1,28 +1,34 @@
 //! The top call: words to a command, a command's files to its answer, its bytes and its note.
 //!
-//! [`lux`] does what the words say, and each command is a public call of its own: [`solve`], [`photo`] and [`run`]. A command
+//! [`lux`] does what the words say, and each command is a public call of its own: [`solve`], [`photo`], [`run`] and
+//! [`generate`]. A command
 //! is one file, which composes stages: the problem of a system file, the photometry of a file, the lit room of a project
-//! file, and the settlement of a problem, on one thread or by a crew of shooters. `specs/` mirrors this: a file for each
-//! stage and each command, and `specs/Commands.antt` with which command some words are. What a call promises that follows
+//! file, the settlement of a problem, on one thread or by a crew of shooters, and the report on a lit room. `specs/` mirrors
+//! this: a file for each stage and each command, and `specs/Commands.antt` with which command some words are. What a call promises that follows
 //! a plan stands in `lux_plans`, and what the answers are in `lux_answers`.
 #![tactic(auto)]
 
 mod commands;
 mod crews;
+mod generate_command;
 mod photo_command;
 mod photometry_files;
 mod project_files;
+mod project_numbers;
+mod reports;
 mod run_command;
 mod settlements;
-mod shooter_counts;
 mod solve_command;
 mod system_files;
 mod top;
 
 pub use commands::{Command, read_words};
-pub use lux_answers::{Answer, Outcome, PhotoFault, Worst};
+pub use compliance::Worst;
+pub use generate_command::generate;
+pub use lux_answers::{Answer, Outcome, PhotoFault};
 pub use photo_command::photo;
+pub use project_numbers::ProjectNumber;
 pub use run_command::run;
-pub use shooter_counts::ShooterCount;
+pub use run_words::{ReportForm, RunWords, ShooterCount};
 pub use solve_command::solve;
 pub use top::lux;

@@ -4,7 +4,8 @@ ghost use Rattle.lux_plans.specs.Runs.{world, Follows};
 ghost use Rattle.lux_top.specs.PhotoCommand.{photometry_output, photo_plan, PhotoRow};
 
 use crate::photometry_files::read_photometry;
-use lux_answers::{Answer, Outcome, Worst};
+use compliance::Worst;
+use lux_answers::{Answer, Outcome};
 use lux_io::{Name, Shelf, Sink};
 use lux_plans::{Writing, conclude};
 use photo_text::photometry_text;

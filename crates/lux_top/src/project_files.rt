@@ -93,8 +93,8 @@ fn read_web<S: Shelf>(alloc: Global, name: &Name, shelf: &mut S) -> Result<Web, 
     }
 }
 
-// The lit room of a project and its webs.
-fn light(
+/// The lit room of a project and its webs.
+pub(crate) fn light(
     rt: &(impl Threads + Sync),
     alloc: Global,
     project: Project,

@@ -1,22 +1,19 @@
-// A ledger of a problem, as text.
+// The settled ledger of a problem, as text.
 ghost use Rattle.std.specs.Prelude.{◌≡◌, length, IfOk, OnOk};
 ghost use Rattle.enclosure.specs.Interval.{IsDone, EnclosesAll};
 ghost use Rattle.flux_system.specs.System.{patches};
 ghost use Rattle.lux_plans.specs.Plans.{Gives};
 ghost use Rattle.lux_top.specs.SystemFiles.{IsWithinLimits};
-ghost use Rattle.lux_top.specs.Settlements.{ledger_with_intervals, settled_writing, settlement, crew_settlement};
+ghost use Rattle.lux_top.specs.Settlements.{ledger_with_intervals, settled_writing, settlement};
 
-use crate::crews::shoot;
-use crate::shooter_counts::ShooterCount;
+use compliance::Worst;
 use enclosure::all;
 use flux_ledger::{Ledger, ledger_text, push_intervals};
 use flux_system::System;
-use lux_answers::{Answer, Worst};
-use lux_io::Gate;
+use lux_answers::Answer;
 use lux_plans::Writing;
 use shot_core::serial;
 use std::alloc::{AllocError, Global};
-use std::thread::Threads;
 
 /// The settled ledger of a flux system and a direct flux within the limits, and its text.
 pub(crate) fn settle(alloc: Global, system: &System, flux: &[u64]) -> Result<Writing, Answer>
@@ -25,28 +22,6 @@ pub(crate) fn settle(alloc: Global, system: &System, flux: &[u64]) -> Result<Wri
     ensures { Gives (settlement (system.now, flux.now)) result }
 {
     let Ok(ledger) = serial(alloc, system, flux) else {
-        return Err(Answer::Memory);
-    };
-    match write_ledger(alloc, system, ledger) {
-        Ok(writing) => Ok(writing),
-        Err(_) => Err(Answer::Memory),
-    }
-}
-
-/// The ledger that so many shooters leave of a flux system and a direct flux within the limits, and its text.
-pub(crate) fn settle_in_crew<R: Threads + Sync, G: Gate>(
-    rt: &R,
-    alloc: Global,
-    system: &System,
-    flux: &[u64],
-    shooters: ShooterCount,
-    gate: &G,
-) -> Result<Writing, Answer>
-    requires lengths { length flux.now ≡ patches system.now }
-    requires limited { IsWithinLimits (system.now, flux.now) }
-    ensures { Gives (crew_settlement shooters (system.now, flux.now)) result }
-{
-    let Ok(ledger) = shoot(rt, alloc, system, flux, shooters, gate) else {
         return Err(Answer::Memory);
     };
     match write_ledger(alloc, system, ledger) {

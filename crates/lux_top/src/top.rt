@@ -4,6 +4,7 @@ ghost use Rattle.lux_plans.specs.Runs.{world, Follows};
 ghost use Rattle.lux_top.specs.Commands.{command_of, plan_of, CommandRow};
 
 use crate::commands::{Command, read_words};
+use crate::generate_command::generate;
 use crate::photo_command::photo;
 use crate::run_command::run;
 use crate::solve_command::solve;
@@ -67,6 +68,7 @@ fn obey<R: Threads + Sync, S: Shelf, K: Sink, N: Sink, G: Gate>(
     match command {
         Command::Solve(name) => solve(alloc, &name, shelf, out, notes),
         Command::Photo(name) => photo(alloc, &name, shelf, out, notes),
-        Command::Run(name, shooters) => run(rt, alloc, &name, shooters, shelf, out, notes, gate),
+        Command::Run(words) => run(rt, alloc, &words, shelf, out, notes, gate),
+        Command::Generate(number) => generate(rt, alloc, number, out, notes, gate),
     }
 }

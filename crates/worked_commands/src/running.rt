@@ -10,8 +10,8 @@ use worked_texts::{CUBE, ONE};
 const TWO_MORE: &str =
     "[[luminaire]]\nfile = \"one.ies\"\nx = 500\ny = 500\nz = 500\nrotation = 0\nlevel = 0\n[[luminaire]]\nfile = \"one.ies\"\nx = 500\ny = 500\nz = 500\nrotation = 0\nlevel = 0\n";
 
-const CUBE_LEDGER: &str =
-    "lux-ledger 1\npatches 6\nwins 0\nparts 2\npatch 0 direct 4000000000 taken 0 residual 4000000000 err 0\npatch 1 direct 4000000000 taken 0 residual 4000000000 err 0\npatch 2 direct 4000000000 taken 0 residual 4000000000 err 0\npatch 3 direct 4000000000 taken 0 residual 4000000000 err 0\npatch 4 direct 4000000000 taken 0 residual 4000000000 err 0\npatch 5 direct 4000000000 taken 0 residual 4000000000 err 0\ninterval 0 4000000000 8799999953\ninterval 1 4000000000 8799999953\ninterval 2 4000000000 8799999953\ninterval 3 4000000000 8799999953\ninterval 4 4000000000 8799999953\ninterval 5 4000000000 8799999953\n";
+const CUBE_REPORT: &str =
+    "lux report 1\npatches 6\nluminaires 3\nshooters 1\nthreshold 5000000000\ndirect 24000000000\nwins 0\nparts 2\npatch 0 direct 4000000000 taken 0 residual 4000000000 err 0 low 4000000000 high 8799999953\npatch 1 direct 4000000000 taken 0 residual 4000000000 err 0 low 4000000000 high 8799999953\npatch 2 direct 4000000000 taken 0 residual 4000000000 err 0 low 4000000000 high 8799999953\npatch 3 direct 4000000000 taken 0 residual 4000000000 err 0 low 4000000000 high 8799999953\npatch 4 direct 4000000000 taken 0 residual 4000000000 err 0 low 4000000000 high 8799999953\npatch 5 direct 4000000000 taken 0 residual 4000000000 err 0 low 4000000000 high 8799999953\nstatus 0\n";
 
 // The shelf of a project and its photometry, in which the reads of these numbers fail.
 fn shelf(alloc: Global, project: &str, failing: &[u64]) -> Result<MemShelf, Fail> {
@@ -66,7 +66,7 @@ fn a_file_that_three_luminaires_name_is_read_once(rt: HostRuntime) -> Result<(),
         &FreeGate,
     )?;
     assert!(rt; matches!(outcome.answer, Answer::Done { .. }));
-    assert_eq!(rt; out.written(), CUBE_LEDGER.as_bytes());
+    assert_eq!(rt; out.written(), CUBE_REPORT.as_bytes());
     assert_eq!(rt; shelf.faults(), 0);
     Ok(())
 }

@@ -1,5 +1,5 @@
-// The words of `run`: its project, and its shooters.
-use lux_top::{Command, read_words};
+// The words of `run`, its project, its shooters and the form of its report; and the number of `gen`.
+use lux_top::{Command, ReportForm, read_words};
 use std::alloc::{AllocError, Global};
 use std::test::Fail;
 
@@ -15,12 +15,12 @@ pub fn words_of(alloc: Global, line: &str) -> Result<Vec<String>, AllocError> {
 #[test]
 fn words_of_run_are_told_from_others(rt: HostRuntime) -> Result<(), Fail> {
     let alloc = rt.alloc();
-    let rows: [(&str, Option<(&str, u32)>); 22] = [
-        ("run p", Some(("p", 4))),
-        ("run p --shooters 1", Some(("p", 1))),
-        ("run --shooters 16 p", Some(("p", 16))),
-        ("run --shooters 3 5", Some(("5", 3))),
-        ("run 3 --shooters 5", Some(("3", 5))),
+    let rows: [(&str, Option<(&str, u32, bool)>); 27] = [
+        ("run p", Some(("p", 4, false))),
+        ("run p --shooters 1", Some(("p", 1, false))),
+        ("run --shooters 16 p", Some(("p", 16, false))),
+        ("run --shooters 3 5", Some(("5", 3, false))),
+        ("run 3 --shooters 5", Some(("3", 5, false))),
         ("run", None),
         ("run p q", None),
         ("run --shooters 3", None),
@@ -35,16 +35,49 @@ fn words_of_run_are_told_from_others(rt: HostRuntime) -> Result<(), Fail> {
         ("run p --shooters --shooters", None),
         ("run --shooters 4 p --shooters 4", None),
         ("run p --shooters=4", None),
-        ("run p --csv", None),
+        ("run p --csv", Some(("p", 4, true))),
+        ("run --csv p --shooters 16", Some(("p", 16, true))),
+        ("run --shooters 2 --csv p", Some(("p", 2, true))),
+        ("run p --csv --csv", None),
+        ("run p --shooters --csv", None),
+        ("run p -- q", None),
         ("solve p --shooters 4", None),
         ("photo p --shooters 4", None),
     ];
     for (given, expected) in rows {
         let words = words_of(alloc, given)?;
         match (read_words(alloc, &words)?, expected) {
-            (Some(Command::Run(project, shooters)), Some((name, count))) => {
-                assert_eq!(rt; project.as_str(), name);
-                assert_eq!(rt; shooters.get(), count);
+            (Some(Command::Run(run)), Some((name, count, is_csv))) => {
+                assert_eq!(rt; run.project.as_str(), name);
+                assert_eq!(rt; run.shooters.get(), count);
+                assert_eq!(rt; matches!(run.form, ReportForm::Csv), is_csv);
+            }
+            (None, None) => (),
+            _ => return Err(Fail::from("another command")),
+        }
+    }
+    Ok(())
+}
+
+#[test]
+fn words_of_gen_are_told_from_others(rt: HostRuntime) -> Result<(), Fail> {
+    let alloc = rt.alloc();
+    let rows: [(&str, Option<u32>); 9] = [
+        ("gen 0", Some(0)),
+        ("gen 9999", Some(9_999)),
+        ("gen 10000", None),
+        ("gen 18446744073709551616", None),
+        ("gen 00", None),
+        ("gen +1", None),
+        ("gen -1", None),
+        ("gen", None),
+        ("gen 1 2", None),
+    ];
+    for (given, expected) in rows {
+        let words = words_of(alloc, given)?;
+        match (read_words(alloc, &words)?, expected) {
+            (Some(Command::Generate(found)), Some(number)) => {
+                assert_eq!(rt; found.get(), number);
             }
             (None, None) => (),
             _ => return Err(Fail::from("another command")),
