@@ -5,11 +5,17 @@
 # expected: `stdout` and `stderr` (absent: nothing) and `status` (absent: 0). It is run in its own folder.
 #
 # What several shooters write may differ from run to run: four projects run with 2, 4 and 16 of them, three times each,
-# or RUNS times with `check.sh RUNS`, and check_ledgers.py checks each ledger.
+# or RUNS times with `check.sh RUNS`, and check_reports.py checks each report.
+#
+# LUX names another program than the one that is built here.
 runs=${1:-3}
 here=$(cd "$(dirname "$0")" && pwd)
-program=$here/../crates/lux/out/lux
-[ -x "$program" ] || "$here/../build"
+if [ -n "$LUX" ]; then
+  program=$(realpath "$LUX")
+else
+  program=$here/../crates/lux/out/lux
+  [ -x "$program" ] || "$here/../build"
+fi
 if [ ! -x "$program" ]; then
   echo "examples: the program is not built"
   exit 1
@@ -39,6 +45,11 @@ run() {
   compare "$name" "$stdout" "$room/note" "$status"
 }
 
+# run_project NAME FILE: runs a project with one shooter, which ends with the status of its report.
+run_project() {
+  run "$1-project" "$2.run.txt" "" "$(sed -n 's/^status //p' "$2.run.txt")" run "$2.toml" --shooters 1
+}
+
 : >"$room/nothing"
 cd "$here" || exit 1
 run two-patches two-patches.solve.txt "" 0 solve two-patches.txt
@@ -53,11 +64,10 @@ done
 run small-eulumdat small.photo.txt "" 0 photo small.ldt
 cd "$here/.." || exit 1
 for project in closet cube hall; do
-  run "$project-project" "examples/$project.run.txt" "" 0 run "examples/$project.toml" --shooters 1
+  run_project "$project" "examples/$project"
 done
 for project in office classroom; do
-  folder=examples/$project
-  run "$project-project" "$folder/$project.run.txt" "" 0 run "$folder/$project.toml" --shooters 1
+  run_project "$project" "examples/$project/$project"
 done
 cd "$here" || exit 1
 
@@ -120,36 +130,36 @@ if [ -c /dev/full ]; then
   compare full-output nothing "$room/note" 7
 fi
 
-# check_shooters PROJECT: runs a project with several shooters and has all ledgers checked. What a run notes, and how it
-# ends where it fails, goes into its ledger, which is then none.
+# check_shooters PROJECT: runs a project with several shooters and has all reports checked, each with the status that its
+# run ended with. What a run notes goes into its report, which is then none.
 check_shooters() {
-  local name=${1##*/} project=examples/$1.toml reference=examples/$1.run.txt shooters number ledger
-  local ledgers=("1:$reference")
+  local name=${1##*/} project=examples/$1.toml reference=examples/$1.run.txt shooters number report
+  local reports=("1:$(sed -n 's/^status //p' "$reference"):$reference")
   for shooters in 2 4 16; do
     for ((number = 1; number <= runs; number++)); do
-      ledger=$room/$name-$shooters-$number
-      "$program" run "$project" --shooters "$shooters" >"$ledger" 2>&1 || echo "status $?" >>"$ledger"
-      ledgers+=("$shooters:$ledger")
+      report=$room/$name-$shooters-$number
+      "$program" run "$project" --shooters "$shooters" >"$report" 2>&1
+      reports+=("$shooters:$?:$report")
     done
   done
-  if python3 examples/check_ledgers.py "$project" "$reference" "${ledgers[@]}" >"$room/answer" 2>&1; then
+  if python3 examples/check_reports.py "$project" "$reference" "${reports[@]}" >"$room/answer" 2>&1; then
     passed=$((passed + 1))
   else
     failed=$((failed + 1))
     trap - EXIT
-    echo "examples: $name with several shooters: $(tail -n 1 "$room/answer"); the ledgers are kept in $room"
+    echo "examples: $name with several shooters: $(tail -n 1 "$room/answer"); the reports are kept in $room"
     head -n -1 "$room/answer" | head -n 5
   fi
 }
 
 cd "$here/.." || exit 1
-examples/check_ledgers_test.sh
+examples/check_reports_test.sh
 case $? in
   0)
     passed=$((passed + 1))
     for project in closet office/office classroom/classroom hall; do check_shooters "$project"; done
     ;;
-  77) echo "examples: the ledgers of several shooters are skipped: there is no python3 with tomllib, as 3.11 has it" ;;
+  77) echo "examples: the reports of several shooters are skipped: there is no python3 with tomllib, as 3.11 has it" ;;
   *) failed=$((failed + 1)) ;;
 esac
 
