@@ -31,7 +31,7 @@ pub enum PhotoFault {
 /// How a command ended. Each answer has its status (0 to 10) and, but for `Done`, one line of note.
 #[derive(Debug, Drop)]
 pub enum Answer {
-    /// All was written. The ledger is the one whose text was written.
+    /// All was written. The ledger is the one that it was written of.
     Done {
         ledger: Option<Ledger>,
         worst: Worst,

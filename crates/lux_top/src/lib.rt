@@ -1,11 +1,10 @@
 //! The top call: words to a command, a command's files to its answer, its bytes and its note.
 //!
 //! [`lux`] does what the words say, and each command is a public call of its own: [`solve`], [`photo`], [`run`] and
-//! [`generate`]. A command
-//! is one file, which composes stages: the problem of a system file, the photometry of a file, the lit room of a project
-//! file, the settlement of a problem, on one thread or by a crew of shooters, and the report on a lit room. `specs/` mirrors
-//! this: a file for each stage and each command, and `specs/Commands.antt` with which command some words are. What a call promises that follows
-//! a plan stands in `lux_plans`, and what the answers are in `lux_answers`.
+//! [`generate`]. A command is one file, which composes stages: the problem of a system file, the photometry of a file, the
+//! lit room of a project file, the settlement of a problem, on one thread or by a crew of shooters, and the report on a lit
+//! room. `specs/` mirrors this: a file for each stage and each command, and `specs/Commands.antt` with which command some
+//! words are. What a call promises that follows a plan stands in `lux_plans`, and what the answers are in `lux_answers`.
 #![tactic(auto)]
 
 mod commands;

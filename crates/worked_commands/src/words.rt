@@ -1,4 +1,4 @@
-// The words of `run`, its project, its shooters and the form of its report; and the number of `gen`.
+// The words of `run`: its project, its shooters, and the form of its report.
 use lux_top::{Command, ReportForm, read_words};
 use std::alloc::{AllocError, Global};
 use std::test::Fail;
@@ -51,33 +51,6 @@ fn words_of_run_are_told_from_others(rt: HostRuntime) -> Result<(), Fail> {
                 assert_eq!(rt; run.project.as_str(), name);
                 assert_eq!(rt; run.shooters.get(), count);
                 assert_eq!(rt; matches!(run.form, ReportForm::Csv), is_csv);
-            }
-            (None, None) => (),
-            _ => return Err(Fail::from("another command")),
-        }
-    }
-    Ok(())
-}
-
-#[test]
-fn words_of_gen_are_told_from_others(rt: HostRuntime) -> Result<(), Fail> {
-    let alloc = rt.alloc();
-    let rows: [(&str, Option<u32>); 9] = [
-        ("gen 0", Some(0)),
-        ("gen 9999", Some(9_999)),
-        ("gen 10000", None),
-        ("gen 18446744073709551616", None),
-        ("gen 00", None),
-        ("gen +1", None),
-        ("gen -1", None),
-        ("gen", None),
-        ("gen 1 2", None),
-    ];
-    for (given, expected) in rows {
-        let words = words_of(alloc, given)?;
-        match (read_words(alloc, &words)?, expected) {
-            (Some(Command::Generate(found)), Some(number)) => {
-                assert_eq!(rt; found.get(), number);
             }
             (None, None) => (),
             _ => return Err(Fail::from("another command")),
