@@ -69,6 +69,23 @@ done
 for project in office classroom; do
   run_project "$project" "examples/$project/$project"
 done
+
+# draw NAME PLAN NOTE STATUS WORD..: draws a plan in characters. PLAN is a file; NOTE is a line, or nothing.
+draw() {
+  local program=examples/plan.sh name=$1-plan plan=$2 note=$3 status=$4
+  shift 4
+  run "$name" "$plan" "$note" "$status" --plain "$@"
+}
+
+"$program" run examples/office/office.toml --shooters 1 --csv >"$room/office.csv"
+draw office-table examples/office/office.plan.txt "" 0 examples/office/office.toml "$room/office.csv"
+draw office-lines examples/office/office.plan.txt "" 0 examples/office/office.toml examples/office/office.run.txt desk
+draw hall-lines examples/hall.plan.txt "" 0 examples/hall.toml examples/hall.run.txt
+draw missing-check "$room/nothing" "plan: the project has no check table" 1 \
+  examples/office/office.toml examples/office/office.run.txt table
+draw other-project "$room/nothing" "plan: the report is of another project: check 0 is floor there, not desk" 1 \
+  examples/office/office.toml examples/hall.run.txt
+draw no-checks "$room/nothing" "plan: the project has no table [[check]]" 1 examples/cube.toml examples/cube.run.txt
 cd "$here" || exit 1
 
 for case in cases/*/; do
