@@ -45,9 +45,13 @@ run() {
   compare "$name" "$stdout" "$room/note" "$status"
 }
 
-# run_project NAME FILE: runs a project with one shooter, which ends with the status of its report.
+# run_project NAME FILE: runs a project with one shooter, which ends with the status of its report; also as CSV, where that
+# is kept.
 run_project() {
-  run "$1-project" "$2.run.txt" "" "$(sed -n 's/^status //p' "$2.run.txt")" run "$2.toml" --shooters 1
+  local status
+  status=$(sed -n 's/^status //p' "$2.run.txt")
+  run "$1-project" "$2.run.txt" "" "$status" run "$2.toml" --shooters 1
+  [ ! -f "$2.run.csv" ] || run "$1-csv" "$2.run.csv" "" "$status" run "$2.toml" --shooters 1 --csv
 }
 
 : >"$room/nothing"
@@ -63,7 +67,7 @@ for luminaire in batwing street spot; do
 done
 run small-eulumdat small.photo.txt "" 0 photo small.ldt
 cd "$here/.." || exit 1
-for project in closet cube hall; do
+for project in closet cube corridor hall; do
   run_project "$project" "examples/$project"
 done
 for project in office classroom; do
