@@ -113,6 +113,7 @@ run no-words nothing "$usage" 3
 run unknown-word nothing "$usage" 3 settle two.txt
 run two-files nothing "$usage" 3 solve two.txt two.txt
 run not-text nothing "$usage" 3 solve $'\xff.txt'
+run not-text-of-run nothing "$usage" 3 run $'\xff.toml' --csv
 run missing-file nothing "lux: cannot read none.txt" 6 solve none.txt
 mkdir folder
 run folder nothing "lux: cannot read folder" 6 solve folder
