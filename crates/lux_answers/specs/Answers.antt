@@ -2,7 +2,7 @@
 use Rattle.std.specs.Prelude.{ℕ, List}
 use Rattle.compliance.specs.Worst.{status_of_worst}
 use Rattle.lux_answers.specs.declared.answers.Answer.{Answer}
-use Rattle.lux_answers.specs.declared.answers.Answer.TheVariants.{Done, Usage, Read, TooLong, Project, Room, Fixture, Grid, System, Photometry, Limits, Write, Memory}
+use Rattle.lux_answers.specs.declared.answers.Answer.TheVariants.{Done, Usage, Read, TooLong, Project, Room, Fixture, Grid, System, LedgerText, Photometry, AuditNo, Limits, Write, Memory}
 use Rattle.lux_answers.specs.declared.answers.Outcome.{Outcome}
 
 abbrev pub status_of : Answer → ℕ
@@ -13,11 +13,13 @@ status_of (Room fault) = 4
 status_of (Fixture fault) = 4
 status_of (Grid check fault) = 4
 status_of (System fault) = 4
+status_of (LedgerText fault) = 4
 status_of (Photometry name fault) = 5
 status_of (Read name) = 6
 status_of (TooLong name) = 6
 status_of Write = 7
 status_of Memory = 8
+status_of (AuditNo finding) = 9
 status_of (Limits fault) = 10
 
 -- an answer with its status
@@ -42,9 +44,11 @@ cause_of (Room fault) = Contents
 cause_of (Fixture fault) = Contents
 cause_of (Grid check fault) = Contents
 cause_of (System fault) = Contents
+cause_of (LedgerText fault) = Contents
 cause_of (Photometry name fault) = Contents
 cause_of (Read name) = FailedRead name
 cause_of (TooLong name) = OverlongRead name
 cause_of Write = FailedWrite
 cause_of Memory = NoMemory
+cause_of (AuditNo finding) = Contents
 cause_of (Limits fault) = Contents

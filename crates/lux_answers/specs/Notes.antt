@@ -9,6 +9,10 @@ use Rattle.flux_system.specs.declared.faults.LimitFault.{LimitFault}
 use Rattle.flux_system.specs.declared.faults.LimitFault.TheVariants.{FluxTooLarge, TooManyTakes}
 use Rattle.grids.specs.declared.faults.GridFault.{GridFault}
 use Rattle.grids.specs.declared.faults.GridFault.TheVariants as grid
+use Rattle.ledger_audit.specs.declared.findings.Finding.{Finding}
+use Rattle.ledger_audit.specs.declared.findings.Finding.TheVariants as audit
+use Rattle.ledger_file.specs.declared.faults.LedgerFault.{LedgerFault}
+use Rattle.ledger_file.specs.declared.faults.LedgerFault.TheVariants as ledgers
 use Rattle.lm63_reader.specs.declared.faults.LmFault.{LmFault}
 use Rattle.lm63_reader.specs.declared.faults.LmFault.TheVariants as lm
 use Rattle.lux_io.specs.Sinks.{SinkState, Wrote, WroteSome}
@@ -23,7 +27,7 @@ use Rattle.system_file.specs.declared.faults.SysFault.TheVariants as system
 use Rattle.lux_answers.specs.declared.answers.Answer.{Answer}
 use Rattle.lux_answers.specs.declared.answers.PhotoFault.{PhotoFault}
 use Rattle.lux_answers.specs.declared.answers.PhotoFault.TheVariants.{Lm, Ldt}
-use Rattle.lux_answers.specs.declared.answers.Answer.TheVariants.{Done, Usage, Read, TooLong, Project, Room, Fixture, Grid, System, Photometry, Limits, Write, Memory}
+use Rattle.lux_answers.specs.declared.answers.Answer.TheVariants.{Done, Usage, Read, TooLong, Project, Room, Fixture, Grid, System, LedgerText, Photometry, AuditNo, Limits, Write, Memory}
 
 -- a fault's name in lower case, and its numbers
 abbrev pub system_note : SysFault → List ℕ
@@ -36,6 +40,25 @@ system_note system.Threshold = codes "threshold"
 system_note (system.Reflectance patch) = codes "reflectance " ++ decimal patch
 system_note (system.RowTotal patch) = codes "row total " ++ decimal patch
 system_note system.Memory = codes "memory"
+
+abbrev pub ledger_note : LedgerFault → List ℕ
+ledger_note ledgers.Header = codes "header"
+ledger_note ledgers.Short = codes "short"
+ledger_note (ledgers.Number line) = codes "number " ++ decimal line
+ledger_note (ledgers.Trailing line) = codes "trailing " ++ decimal line
+ledger_note (ledgers.Size n) = codes "size " ++ decimal n
+ledger_note ledgers.Memory = codes "memory"
+
+-- what an audit found, and the numbers that it kept of it
+abbrev pub finding_note : Finding → List ℕ
+finding_note audit.Balanced = codes "balanced"
+finding_note (audit.Size left right) = codes "size " ++ decimal left ++ codes " " ++ decimal right
+finding_note (audit.Direct patch left right) = codes "direct " ++ decimal patch ++ codes " " ++ decimal left ++ codes " " ++ decimal right
+finding_note (audit.Err patch value) = codes "err " ++ decimal patch ++ codes " " ++ decimal value
+finding_note (audit.Residual patch value) = codes "residual " ++ decimal patch ++ codes " " ++ decimal value
+finding_note (audit.Unbalanced patch left right) = codes "unbalanced " ++ decimal patch ++ codes " " ++ decimal left ++ codes " " ++ decimal right
+finding_note (audit.Wins wins limit) = codes "wins " ++ decimal wins ++ codes " " ++ decimal limit
+finding_note (audit.Bounds patch low high) = codes "bounds " ++ decimal patch ++ codes " " ++ decimal low ++ codes " " ++ decimal high
 
 abbrev pub project_note : ProjFault → List ℕ
 project_note project.Toml = codes "toml"
@@ -122,7 +145,9 @@ answer_note (Room fault) = codes "room: " ++ room_note fault
 answer_note (Fixture fault) = codes "luminaire: " ++ fixture_note fault
 answer_note (Grid check fault) = codes "check " ++ decimal check ++ codes ": " ++ grid_note fault
 answer_note (System fault) = codes "system: " ++ system_note fault
+answer_note (LedgerText fault) = codes "ledger: " ++ ledger_note fault
 answer_note (Photometry name fault) = codes "photometry " ++ name ++ codes ": " ++ photometry_note fault
+answer_note (AuditNo finding) = codes "audit: " ++ finding_note finding
 answer_note (Limits fault) = codes "limit: " ++ limit_note fault
 answer_note Write = codes "cannot write"
 answer_note Memory = codes "out of memory"

@@ -9,6 +9,8 @@ use fixtures::FixtureFault;
 use flux_ledger::Ledger;
 use flux_system::LimitFault;
 use grids::GridFault;
+use ledger_audit::Finding;
+use ledger_file::LedgerFault;
 use lm63_reader::LmFault;
 use lux_io::Name;
 use project_file::ProjFault;
@@ -59,11 +61,15 @@ pub enum Answer {
     },
     /// The file is no system text, for this reason.
     System(SysFault),
+    /// The file is no ledger text, for this reason.
+    LedgerText(LedgerFault),
     /// This file is no photometry, for this reason.
     Photometry {
         name: Name,
         fault: PhotoFault,
     },
+    /// The ledger is not one of the flux system and its direct flux, or its intervals are others: this was found.
+    AuditNo(Finding),
     /// A number of the flux system or its direct flux passes a limit.
     Limits(LimitFault),
     /// The output took a part of the bytes at most.
@@ -99,11 +105,13 @@ impl Answer {
             | Answer::Room(_)
             | Answer::Fixture(_)
             | Answer::Grid { .. }
-            | Answer::System(_) => 4,
+            | Answer::System(_)
+            | Answer::LedgerText(_) => 4,
             Answer::Photometry { .. } => 5,
             Answer::Read { .. } | Answer::TooLong { .. } => 6,
             Answer::Write => 7,
             Answer::Memory => 8,
+            Answer::AuditNo(_) => 9,
             Answer::Limits(_) => 10,
         }
     }

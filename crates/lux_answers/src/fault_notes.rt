@@ -1,12 +1,14 @@
-// The notes of faults: each fault's name in lower case, and its numbers.
+// The notes of faults and findings: the name of each in lower case, and its numbers.
 ghost use Rattle.std.specs.Prelude.{Some};
-ghost use Rattle.lux_answers.specs.Notes.{project_note, room_note, fixture_note, grid_note, system_note, number_note, lm_note, ldt_note, photometry_note, limit_note};
+ghost use Rattle.lux_answers.specs.Notes.{project_note, room_note, fixture_note, grid_note, system_note, ledger_note, finding_note, number_note, lm_note, ldt_note, photometry_note, limit_note};
 
 use crate::PhotoFault;
 use eulumdat_reader::LdtFault;
 use fixtures::FixtureFault;
 use flux_system::LimitFault;
 use grids::GridFault;
+use ledger_audit::Finding;
+use ledger_file::LedgerFault;
 use lm63_reader::LmFault;
 use lux_num::NumFault;
 use project_file::ProjFault;
@@ -32,6 +34,48 @@ impl fmt::Display for SystemNote {
             SysFault::Reflectance { patch } => write!(f, "reflectance {patch}"),
             SysFault::RowTotal { patch } => write!(f, "row total {patch}"),
             SysFault::Memory => write!(f, "memory"),
+        }
+    }
+}
+
+// A refusal of a ledger text in the words of a note.
+#[derive(Clone, Copy)]
+pub(crate) struct LedgerNote(pub(crate) LedgerFault);
+
+impl fmt::Display for LedgerNote {
+    ghost output = { λ note. Some (ledger_note note.0) };
+
+    fn fmt<W: fmt::Write>(&self, f: &mut fmt::Formatter<W>) -> fmt::Result {
+        match self.0 {
+            LedgerFault::Header => write!(f, "header"),
+            LedgerFault::Short => write!(f, "short"),
+            LedgerFault::Number { line } => write!(f, "number {line}"),
+            LedgerFault::Trailing { line } => write!(f, "trailing {line}"),
+            LedgerFault::Size { n } => write!(f, "size {n}"),
+            LedgerFault::Memory => write!(f, "memory"),
+        }
+    }
+}
+
+// A finding of an audit in the words of a note.
+#[derive(Clone, Copy)]
+pub(crate) struct FindingNote(pub(crate) Finding);
+
+impl fmt::Display for FindingNote {
+    ghost output = { λ note. Some (finding_note note.0) };
+
+    fn fmt<W: fmt::Write>(&self, f: &mut fmt::Formatter<W>) -> fmt::Result {
+        match self.0 {
+            Finding::Balanced => write!(f, "balanced"),
+            Finding::Size { left, right } => write!(f, "size {left} {right}"),
+            Finding::Direct { patch, left, right } => write!(f, "direct {patch} {left} {right}"),
+            Finding::Err { patch, value } => write!(f, "err {patch} {value}"),
+            Finding::Residual { patch, value } => write!(f, "residual {patch} {value}"),
+            Finding::Unbalanced { patch, left, right } => {
+                write!(f, "unbalanced {patch} {left} {right}")
+            }
+            Finding::Wins { wins, limit } => write!(f, "wins {wins} {limit}"),
+            Finding::Bounds { patch, low, high } => write!(f, "bounds {patch} {low} {high}"),
         }
     }
 }

@@ -4,7 +4,8 @@ ghost use Rattle.lux_answers.specs.Notes.{answer_note, note};
 
 use crate::Answer;
 use crate::fault_notes::{
-    FixtureNote, GridNote, LimitNote, PhotometryNote, ProjectNote, RoomNote, SystemNote,
+    FindingNote, FixtureNote, GridNote, LedgerNote, LimitNote, PhotometryNote, ProjectNote,
+    RoomNote, SystemNote,
 };
 use std::alloc::{AllocError, Global};
 use std::fmt;
@@ -47,10 +48,18 @@ impl fmt::Display for Answer {
                 let note = SystemNote(*fault);
                 write!(f, "system: {note}")
             }
+            Answer::LedgerText(fault) => {
+                let note = LedgerNote(*fault);
+                write!(f, "ledger: {note}")
+            }
             Answer::Photometry { name, fault } => {
                 let name = name.as_str();
                 let note = PhotometryNote(*fault);
                 write!(f, "photometry {name}: {note}")
+            }
+            Answer::AuditNo(finding) => {
+                let note = FindingNote(*finding);
+                write!(f, "audit: {note}")
             }
             Answer::Limits(fault) => {
                 let note = LimitNote(*fault);

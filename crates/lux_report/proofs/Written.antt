@@ -1,15 +1,12 @@
 -- Rows that were written one behind the other.
-use Rattle.std.proofs.Common.{◌≡◌, ℕ, ◌+◌, List, [], ◌∷◌, ◌++◌, map, sym, ap, subst, ◌∙◌, append_assoc, append-nil}
+use Rattle.std.proofs.Common.{◌≡◌, ℕ, ◌+◌, List, [], ◌∷◌, ◌++◌, map, sym, ap, subst, ◌∙◌, append_assoc}
 use Rattle.std.specs.List.{flat_map, range_with_len}
 use Rattle.std.proofs.lemmas.List.Concat.{flat_map-append}
 use Rattle.laws.proofs.Ranges.{map-more, flat_map-more}
 use Rattle.csv.specs.Records.{fields_of}
 use Rattle.lux_report.specs.declared.row_writer.RowWriter.{RowWriter}
 use Rattle.lux_report.specs.Report.{csv_line, csv_text}
-use Rattle.lux_report.specs.Shapes.{bytes_of, IsBetweenRows, Writes}
-
-pub writes_none : (rows : RowWriter) → IsBetweenRows rows.writer → Writes rows rows []
-writes_none rows between = record { between = between; bytes = sym (append-nil (bytes_of rows.writer)) }
+use Rattle.lux_report.specs.Shapes.{bytes_of, Writes}
 
 -- a row that was gathered of these fields
 pub writes_gathered : (a b c : RowWriter) (fields : List (List ℕ)) → b.writer ≡ a.writer → fields_of b.row ≡ fields → Writes b c (fields_of b.row ∷ []) → Writes a c (fields ∷ [])

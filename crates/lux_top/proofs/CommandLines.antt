@@ -6,7 +6,7 @@ use Rattle.lux_answers.specs.declared.answers.Outcome.{Outcome}
 use Rattle.lux_answers.specs.Answers.{outcome_of}
 use Rattle.lux_plans.specs.Runs.{World, Refuses, Concludes}
 use Rattle.lux_top.specs.declared.commands.Command.{Command}
-use Rattle.lux_top.specs.declared.commands.Command.TheVariants.{Solve, Photo, Run, Generate}
+use Rattle.lux_top.specs.declared.commands.Command.TheVariants.{Solve, Photo, Run, Audit, Generate}
 use Rattle.lux_top.specs.Commands.{CommandRow}
 
 row_of_words : (command : Option Command) (before after : World) (outcome : Outcome) (answer : Answer) → outcome ≡ outcome_of answer → CommandRow command before after answer → CommandRow command before after outcome.answer
@@ -17,6 +17,7 @@ refusal_by_memory None before after refuses = refuses
 refusal_by_memory (Some (Solve name)) before after refuses = (refuses, tt)
 refusal_by_memory (Some (Photo name)) before after refuses = (refuses, tt)
 refusal_by_memory (Some (Run words)) before after refuses = (refuses, tt)
+refusal_by_memory (Some (Audit system ledger)) before after refuses = (refuses, tt)
 refusal_by_memory (Some (Generate number)) before after refuses = (refuses, tt)
 
 -- want of memory for the words

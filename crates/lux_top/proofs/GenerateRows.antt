@@ -1,5 +1,5 @@
 -- The rows of `gen`, from its plan.
-use Rattle.std.proofs.Common.{◌≡◌, inl, inr, ℕ, refl, sym, subst, ap, Ok, Err, ◌∙◌}
+use Rattle.std.proofs.Common.{◌≡◌, inl, inr, ℕ, sym, subst, Ok, Err}
 use Rattle.flux_ledger.specs.declared.ledger.Ledger.{Ledger}
 use Rattle.lit_room.specs.LitRooms.{Lighting, lit_room_of}
 use Rattle.lit_room.specs.declared.faults.LightFault.{LightFault}
@@ -16,12 +16,12 @@ use Rattle.lux_plans.specs.Runs.{World, Runs}
 use Rattle.lux_plans.specs.Writings.{Writing}
 use Rattle.lux_plans.proofs.Parts.{given_parts, refused_parts, accepted_is, refused_is}
 use Rattle.lux_plans.proofs.Rows.{row_of}
-use Rattle.lux_top.specs.GenerateCommand.{generated_lighting, summary_of, summary_writing, generate_plan, IsDefaultLedger, IsGenerated, GenerateRefusal, GenerateRow, SolvesGenerated, SolvesGeneratedInPart}
+use Rattle.lux_top.specs.GenerateCommand.{generated_lighting, summary_of, summary_text, summary_writing, generate_plan, IsDefaultLedger, IsGenerated, GenerateRefusal, GenerateRow, SolvesGenerated, SolvesGeneratedInPart}
 use Rattle.lux_top.specs.ProjectFiles.{lit_room, light_refusal}
 use Rattle.lux_top.specs.RunCommand.{problem_of}
-use Rattle.lux_top.specs.Settlements.{IsSolvedBy}
+use Rattle.lux_top.specs.Settlements.{no_verdict}
 use Rattle.lux_top.proofs.Plain.{plain_generate}
-use Rattle.lux_top.proofs.SettlementRows.{settlement_is, never_refused}
+use Rattle.lux_top.proofs.SettlementRows.{IsWrittenOf, settlement_is, never_refused, solved_whole, solved_in_part}
 
 module _ (number : ℕ) where
   -- the number's project is no lit room
@@ -49,7 +49,7 @@ module _ (number : ℕ) where
 module _ (number : ℕ) (before after : World) where
   -- what was solved, and the summary
   solved : (writing : Writing) → Decides (generate_plan number) before.shelf after.shelf (Ok writing)
-      → (lighting : Lighting) × (ledger : Ledger) × IsSolvedBy (IsGenerated number) problem_of IsDefaultLedger lighting ledger × (writing ≡ summary_writing number lighting ledger)
+      → IsWrittenOf (IsGenerated number) problem_of IsDefaultLedger no_verdict (λ lighting ledger. summary_text number lighting) writing
   solved writing h =
       let parts = given_parts (lit_room (generated_lighting number)) (summary_of number) before.shelf after.shelf writing h in
       let said = generated_is number before.shelf parts.0 parts.1 in
@@ -57,23 +57,10 @@ module _ (number : ℕ) (before after : World) where
       (parts.0, settled.0, record { is_said = said; within_limits = within_limits parts.0 said.accepted; is_ledger = settled.1 }, settled.2)
 
   completes : (writing : Writing) → Decides (generate_plan number) before.shelf after.shelf (Ok writing) → Wrote before.out after.out writing.bytes → after.notes ≡ before.notes → SolvesGenerated number before after writing.answer
-  completes writing h wrote same = let by = solved writing h in record {
-    value = by.0;
-    ledger = by.1;
-    solved = by.2;
-    is_answered = ap (λ (w : Writing). w.answer) by.3;
-    wrote = subst (λ (w : Writing). Wrote before.out after.out w.bytes) by.3 wrote;
-    no_note = same;
-  }
+  completes writing h = solved_whole (IsGenerated number) problem_of IsDefaultLedger no_verdict (λ lighting ledger. summary_text number lighting) before after writing (solved writing h)
 
   cuts_off : (writing : Writing) → Decides (generate_plan number) before.shelf after.shelf (Ok writing) → WroteSome before.out after.out writing.bytes → PutsNote answer.Write before.notes after.notes → SolvesGeneratedInPart number before after
-  cuts_off writing h some noted = let by = solved writing h in record {
-    value = by.0;
-    ledger = by.1;
-    solved = by.2;
-    wrote = subst (λ (w : Writing). WroteSome before.out after.out w.bytes) by.3 some;
-    noted = noted;
-  }
+  cuts_off writing h = solved_in_part (IsGenerated number) problem_of IsDefaultLedger no_verdict (λ lighting ledger. summary_text number lighting) before after writing (solved writing h)
 
   -- the row of each answer
   pub generate_row : (outcome : Outcome) → Runs (generate_plan number) before after outcome → GenerateRow number before after outcome.answer

@@ -4,6 +4,7 @@ pub mod SettlementRows
 pub mod SolveRows
 pub mod PhotoRows
 pub mod RunRows
+pub mod AuditRows
 pub mod CommandLines
 pub mod GenerateRows
 pub mod Limited

@@ -1,5 +1,5 @@
 -- The rows of `run`, from its plan.
-use Rattle.std.proofs.Common.{◌≡◌, inl, inr, ℕ, List, [], ◌∷◌, take, refl, sym, subst, ap, Ok, Err}
+use Rattle.std.proofs.Common.{◌≡◌, inl, inr, ℕ, List, [], ◌∷◌, take, refl, sym, subst, Ok, Err}
 use Rattle.lit_room.specs.LitRooms.{Lighting, lit_room_of}
 use Rattle.lit_room.specs.declared.faults.LightFault.{LightFault}
 use Rattle.lit_room.specs.declared.faults.LightFault.TheVariants as light
@@ -21,15 +21,13 @@ use Rattle.lux_plans.proofs.Steps.{first_given, refused_step}
 use Rattle.lux_top.specs.PhotoCommand.{PhotoRefusal}
 use Rattle.lux_top.specs.PhotometryFiles.{photometry_in, photometry_file, most_photometry_bytes}
 use Rattle.lux_top.specs.ProjectFiles.{project_file, most_project_bytes, web_file, lit_room, lit_project, lit_room_file, light_refusal, IsFileProject, IsFileWeb, AreFileWebs, IsFileLitRoom, IsNextOf}
-use Rattle.lux_top.specs.RunCommand.{problem_of, run_plan, crew_report, report_writing, IsRoomLedger, RunRefusal, RunRow, SolvesProject, SolvesProjectInPart}
-use Rattle.flux_ledger.specs.declared.ledger.Ledger.{Ledger}
-use Rattle.lux_top.specs.Settlements.{IsSolvedBy}
+use Rattle.lux_top.specs.RunCommand.{problem_of, run_plan, crew_report, report_bytes, report_writing, worst_verdict, IsRoomLedger, RunRefusal, RunRow, SolvesProject, SolvesProjectInPart}
 use Rattle.run_words.specs.declared.readings.RunWords.{RunWords}
 use Rattle.run_words.specs.declared.report_forms.ReportForm.{ReportForm}
 use Rattle.lux_top.proofs.Plain.{plain_run}
 use Rattle.lux_top.proofs.PhotoRows.{photometry_is, file_reason}
 use Rattle.lux_top.proofs.Reading.{file_says, file_refuses}
-use Rattle.lux_top.proofs.SettlementRows.{settlement_is, never_refused}
+use Rattle.lux_top.proofs.SettlementRows.{IsWrittenOf, settlement_is, never_refused, solved_whole, solved_in_part}
 
 -- the web of a file that was read
 web_is : (name : List ℕ) (before after : ShelfState) (web : PhotometricWeb) → Decides (web_file name) before after (Ok web) → IsFileWeb before name web
@@ -140,8 +138,7 @@ module _ (name : List ℕ) (before after : ShelfState) where
 module _ (words : RunWords) (before after : World) where
   -- what was solved, and the report on it
   solved : (writing : Writing) → Decides (run_plan words) before.shelf after.shelf (Ok writing)
-      → (lighting : Lighting) × (ledger : Ledger) × IsSolvedBy (IsFileLitRoom before.shelf words.project) problem_of (IsRoomLedger words.shooters) lighting ledger
-      × (writing ≡ report_writing words.form words.shooters lighting ledger)
+      → IsWrittenOf (IsFileLitRoom before.shelf words.project) problem_of (IsRoomLedger words.shooters) worst_verdict (report_bytes words.form words.shooters) writing
   solved writing h =
       let parts = given_parts (lit_room_file words.project) (crew_report words.form words.shooters) before.shelf after.shelf writing h in
       let said = lit_room_is words.project before.shelf before.shelf parts.0 parts.1 in
@@ -149,23 +146,10 @@ module _ (words : RunWords) (before after : World) where
       (parts.0, settled.0, record { is_said = said; within_limits = within_limits parts.0 said.accepted; is_ledger = settled.1 }, settled.2)
 
   completes : (writing : Writing) → Decides (run_plan words) before.shelf after.shelf (Ok writing) → Wrote before.out after.out writing.bytes → after.notes ≡ before.notes → SolvesProject words before after writing.answer
-  completes writing h wrote same = let by = solved writing h in record {
-    value = by.0;
-    ledger = by.1;
-    solved = by.2;
-    is_answered = ap (λ (w : Writing). w.answer) by.3;
-    wrote = subst (λ (w : Writing). Wrote before.out after.out w.bytes) by.3 wrote;
-    no_note = same;
-  }
+  completes writing h = solved_whole (IsFileLitRoom before.shelf words.project) problem_of (IsRoomLedger words.shooters) worst_verdict (report_bytes words.form words.shooters) before after writing (solved writing h)
 
   cuts_off : (writing : Writing) → Decides (run_plan words) before.shelf after.shelf (Ok writing) → WroteSome before.out after.out writing.bytes → PutsNote answer.Write before.notes after.notes → SolvesProjectInPart words before after
-  cuts_off writing h some noted = let by = solved writing h in record {
-    value = by.0;
-    ledger = by.1;
-    solved = by.2;
-    wrote = subst (λ (w : Writing). WroteSome before.out after.out w.bytes) by.3 some;
-    noted = noted;
-  }
+  cuts_off writing h = solved_in_part (IsFileLitRoom before.shelf words.project) problem_of (IsRoomLedger words.shooters) worst_verdict (report_bytes words.form words.shooters) before after writing (solved writing h)
 
   -- the row of each answer
   pub run_row : (outcome : Outcome) → Runs (run_plan words) before after outcome → RunRow words before after outcome.answer

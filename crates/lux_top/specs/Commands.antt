@@ -8,10 +8,11 @@ use Rattle.lux_lines.specs.Numerals.{is_numeral, numeral_value}
 use Rattle.lux_plans.specs.Plans.{Plan, Refuse}
 use Rattle.lux_plans.specs.Runs.{World, Refuses}
 use Rattle.lux_plans.specs.Writings.{Writing}
-use Rattle.lux_words.specs.Words.{no_options, only_operand}
+use Rattle.lux_words.specs.Words.{no_options, only_operand, two_operands}
 use Rattle.run_words.specs.RunWords.{run_of}
 use Rattle.lux_top.specs.declared.commands.Command.{Command}
-use Rattle.lux_top.specs.declared.commands.Command.TheVariants.{Solve, Photo, Run, Generate}
+use Rattle.lux_top.specs.declared.commands.Command.TheVariants.{Solve, Photo, Run, Audit, Generate}
+use Rattle.lux_top.specs.AuditCommand.{audit_plan, AuditRow}
 use Rattle.lux_top.specs.GenerateCommand.{generate_plan, GenerateRow}
 use Rattle.lux_top.specs.PhotoCommand.{photo_plan, PhotoRow}
 use Rattle.lux_top.specs.ProjectNumbers.{is_project_number}
@@ -38,6 +39,7 @@ command_of words = first_command (
     option_map Solve (only_operand (codes "solve") no_options words)
     ∷ option_map Photo (only_operand (codes "photo") no_options words)
     ∷ option_map Run (run_of words)
+    ∷ option_map (λ files. Audit files.0 files.1) (two_operands (codes "audit") no_options words)
     ∷ option_map Generate (number_of words)
     ∷ [])
 
@@ -47,6 +49,7 @@ plan_of None = Refuse Usage
 plan_of (Some (Solve name)) = solve_plan name
 plan_of (Some (Photo name)) = photo_plan name
 plan_of (Some (Run words)) = run_plan words
+plan_of (Some (Audit system ledger)) = audit_plan system ledger
 plan_of (Some (Generate number)) = generate_plan number
 
 -- words that are no command get the usage line, or want of memory, and nothing is written
@@ -61,4 +64,5 @@ CommandRow None before after answer = UsageRow before after answer
 CommandRow (Some (Solve name)) before after answer = SolveRow name before after answer
 CommandRow (Some (Photo name)) before after answer = PhotoRow name before after answer
 CommandRow (Some (Run words)) before after answer = RunRow words before after answer
+CommandRow (Some (Audit system ledger)) before after answer = AuditRow system ledger before after answer
 CommandRow (Some (Generate number)) before after answer = GenerateRow number before after answer

@@ -1,5 +1,7 @@
+pub mod AuditCommand
 pub mod Commands
 pub mod GenerateCommand
+pub mod LedgerFiles
 pub mod PhotoCommand
 pub mod PhotometryFiles
 pub mod ProjectFiles

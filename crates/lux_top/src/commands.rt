@@ -1,6 +1,6 @@
 // What the words of a command line ask for.
 ghost use Rattle.std.specs.Prelude.{◌≡◌, map, IfOk, string_bytes};
-ghost use Rattle.lux_words.specs.Words.{no_options, only_operand};
+ghost use Rattle.lux_words.specs.Words.{no_options, only_operand, two_operands, word_at};
 ghost use Rattle.lux_top.specs.Commands.{command_of, number_in, number_of};
 
 use crate::project_numbers::ProjectNumber;
@@ -19,8 +19,23 @@ pub enum Command {
     Photo(Name),
     /// `run PROJECT [--shooters N] [--csv]`
     Run(RunWords),
+    /// `audit SYSTEM LEDGER`
+    Audit {
+        system: Name,
+        ledger: Name,
+    },
     /// `gen NUMBER`
     Generate(ProjectNumber),
+}
+
+// The word at a place as a name, which every operand is.
+fn name_at(alloc: Global, words: &[String], place: usize) -> Result<Name, AllocError>
+    ensures { IfOk result (λ name. name ≡ word_at (map string_bytes words.now) place) }
+{
+    match Name::new(alloc, word(words, place)) {
+        Ok(name) => Ok(name),
+        Err(_) => Err(AllocError),
+    }
 }
 
 // The only operand of a command without options, where the words are this command with one.
@@ -33,10 +48,22 @@ fn only_operand(alloc: Global, words: &[String], keyword: &str) -> Result<Option
     if places.len() != 1 {
         return Ok(None);
     }
-    match Name::new(alloc, word(words, places[0])) {
-        Ok(name) => Ok(Some(name)),
-        Err(_) => Err(AllocError),
+    Ok(Some(name_at(alloc, words, places[0])?))
+}
+
+// Both operands of a command without options, where the words are this command with two.
+fn two_operands(alloc: Global, words: &[String], keyword: &str) -> Result<Option<(Name, Name)>, AllocError>
+    ensures { IfOk result (λ names. names ≡ two_operands keyword.now no_options (map string_bytes words.now)) }
+{
+    let Some(places) = operands(alloc, words, keyword, &Options::none())? else {
+        return Ok(None);
+    };
+    if places.len() != 2 {
+        return Ok(None);
     }
+    let first = name_at(alloc, words, places[0])?;
+    let second = name_at(alloc, words, places[1])?;
+    Ok(Some((first, second)))
 }
 
 /// The command that the words are, or none. Words don't include the program's name.
@@ -51,6 +78,9 @@ pub fn read_words(alloc: Global, words: &[String]) -> Result<Option<Command>, Al
     }
     if let Some(run) = read_run(alloc, words)? {
         return Ok(Some(Command::Run(run)));
+    }
+    if let Some((system, ledger)) = two_operands(alloc, words, "audit")? {
+        return Ok(Some(Command::Audit { system, ledger }));
     }
     match read_number(alloc, words)? {
         Some(number) => Ok(Some(Command::Generate(number))),

@@ -3,6 +3,7 @@ ghost use Rattle.std.specs.Prelude.{map, string_bytes, Some};
 ghost use Rattle.lux_plans.specs.Runs.{world, Follows};
 ghost use Rattle.lux_top.specs.Commands.{command_of, plan_of, CommandRow};
 
+use crate::audit_command::audit_files;
 use crate::commands::{Command, read_words};
 use crate::generate_command::generate;
 use crate::photo_command::photo;
@@ -69,6 +70,9 @@ fn obey<R: Threads + Sync, S: Shelf, K: Sink, N: Sink, G: Gate>(
         Command::Solve(name) => solve(alloc, &name, shelf, out, notes),
         Command::Photo(name) => photo(alloc, &name, shelf, out, notes),
         Command::Run(words) => run(rt, alloc, &words, shelf, out, notes, gate),
+        Command::Audit { system, ledger } => {
+            audit_files(alloc, &system, &ledger, shelf, out, notes)
+        }
         Command::Generate(number) => generate(rt, alloc, number, out, notes, gate),
     }
 }

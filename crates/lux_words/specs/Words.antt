@@ -69,6 +69,14 @@ only_operand keyword options words = option_and_then only (operands_of keyword o
     only (operand ∷ []) = Some operand
     only _ = None
 
+-- both operands, where the words are this command with two
+abbrev pub two_operands : List ℕ → Options → List (List ℕ) → Option (List ℕ × List ℕ)
+two_operands keyword options words = option_and_then both (operands_of keyword options words)
+  where
+    both : List (List ℕ) → Option (List ℕ × List ℕ)
+    both (one ∷ other ∷ []) = Some (one, other)
+    both _ = None
+
 -- the value of an option: the word behind the first place where it stands, or an empty one. In words that are a command an
 -- option stands once, and its value has an operand's form.
 unfoldable pub setting_of : List ℕ → List (List ℕ) → Option (List ℕ)

@@ -1,8 +1,7 @@
 // Words told apart.
-ghost use Rattle.std.specs.Prelude.{◌≡◌, ◌≤◌, ◌<◌, ◌-◌, length, map, filter, take, ◌+◌, position, IfOk, IfSome, string_bytes};
-ghost use Rattle.std.specs.Option.{option_map, option_copied};
-ghost use Rattle.std.specs.Str.{bytes_eq};
-ghost use Rattle.lux_words.specs.Words.{is_among, is_operand, is_value, is_option, is_argument, is_command, is_own_operand, operands_of, setting_of, word_at, places_behind};
+ghost use Rattle.std.specs.Prelude.{◌≡◌, ◌≤◌, ◌<◌, ◌-◌, length, map, filter, take, IfOk, string_bytes};
+ghost use Rattle.std.specs.Option.{option_map};
+ghost use Rattle.lux_words.specs.Words.{is_among, is_operand, is_value, is_option, is_argument, is_command, is_own_operand, operands_of, word_at, places_behind};
 
 use std::alloc::{AllocError, Global};
 use std::marker::Model;
@@ -80,31 +79,6 @@ fn stands_before(words: &[String], place: usize, word: &str) -> bool
         }
     }
     false
-}
-
-/// Whether an option stands among the words.
-pub fn has_option(words: &[String], option: &str) -> bool
-    ensures { result ≡ is_among (map string_bytes words.now) option.now }
-{
-    stands_before(words, words.len(), option)
-}
-
-/// The value of an option: the word behind the first place where it stands, or an empty one. In words that are a command an
-/// option stands once, and its value has an operand's form.
-#[tactic(auto, using(crate::proofs::Settings::setting_in_memory))]
-pub fn setting<'a>(words: &'a [String], option: &str) -> Option<&'a str>
-    ensures { option_copied result ≡ setting_of option.now (map string_bytes words.now) }
-{
-    let place = first_place(words, option)?;
-    Some(word(words, place + 1))
-}
-
-// The first place where an option stands among the words.
-fn first_place(words: &[String], option: &str) -> Option<usize>
-    ensures value { result ≡ position (λ word. bytes_eq (string_bytes word) option.now) words.now }
-    ensures inside { IfSome result (λ place. place < length words.now) }
-{
-    words.iter().position(|word| word.as_str() == option)
 }
 
 // Whether the word at a place is the value of the option before it.

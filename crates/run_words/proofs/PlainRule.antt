@@ -169,9 +169,6 @@ after_value before table x xs plain h = record {
 
 -- ---- all words
 
-result_false : (l : List Text) (value : Option Text) (table : Bool) → result false l value table ≡ None
-result_false l value table = refl
-
 -- a second file is one too many
 two_files : (b : Bool) (one other : Text) (l : List Text) (value : Option Text) (table : Bool) → result b (one ∷ other ∷ l) value table ≡ None
 two_files true one other l value table = refl

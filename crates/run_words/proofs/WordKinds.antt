@@ -71,11 +71,5 @@ reading project shooters csv waits (word ∷ words) =
     (cond (is_some project) None (reading (Some word) shooters csv false words))))
 
 module _ (project shooters : Option Text) (csv waits : Bool) (words : List Text) where
-  pub at_flag : reading project shooters csv waits (csv_word ∷ words) ≡ cond (csv || waits) None (reading project shooters true false words)
-  at_flag = refl
-
-  pub at_setting : reading project shooters csv waits (shooters_word ∷ words) ≡ cond (is_some shooters || waits) None (reading project shooters csv true words)
-  at_setting = refl
-
   pub at_operand : (x : ℕ) (xs : Text) → (x == 45) ≡ false → reading project shooters csv waits ((x ∷ xs) ∷ words) ≡ cond waits (reading project (Some (x ∷ xs)) csv false words) (cond (is_some project) None (reading (Some (x ∷ xs)) shooters csv false words))
   at_operand x xs plain = rw plain refl

@@ -5,10 +5,12 @@ use lux_top::Answer;
 use std::sync::atomic::{AtomicBool, Ordering};
 use std::test::Fail;
 
-const OFFICE: &str =
-    "version = 1\n[room]\nwidth = 6000\ndepth = 4000\nheight = 3000\ncounts = [6, 4, 3]\nfloor = 200\nceiling = 700\nwalls = 500\n[solver]\nthreshold = 10000000\n[[luminaire]]\nfile = \"office.ies\"\nx = 1500\ny = 1000\nz = 2800\nrotation = 0\nlevel = 1000\n[[luminaire]]\nfile = \"office.ies\"\nx = 4500\ny = 1000\nz = 2800\nrotation = 0\nlevel = 1000\n[[luminaire]]\nfile = \"office.ies\"\nx = 1500\ny = 3000\nz = 2800\nrotation = 0\nlevel = 1000\n[[luminaire]]\nfile = \"office.ies\"\nx = 4500\ny = 3000\nz = 2800\nrotation = 0\nlevel = 1000\n[[check]]\nname = \"desk\"\nx = [500, 5500]\ny = [500, 3500]\nz = 750\npoints = [10, 6]\nmaintenance = 800\naverage = 500\nuniformity = 600\n";
+/// An office with four luminaires and a check.
+pub const OFFICE: &str =
+    "version = 1\n[room]\nwidth = 6000\ndepth = 4000\nheight = 3000\ncounts = [12, 8, 6]\nfloor = 200\nceiling = 700\nwalls = 500\n[solver]\nthreshold = 10000000\n[[luminaire]]\nfile = \"office.ies\"\nx = 1500\ny = 1000\nz = 2800\nrotation = 0\nlevel = 1000\n[[luminaire]]\nfile = \"office.ies\"\nx = 4500\ny = 1000\nz = 2800\nrotation = 0\nlevel = 1000\n[[luminaire]]\nfile = \"office.ies\"\nx = 1500\ny = 3000\nz = 2800\nrotation = 0\nlevel = 1000\n[[luminaire]]\nfile = \"office.ies\"\nx = 4500\ny = 3000\nz = 2800\nrotation = 0\nlevel = 1000\n[[check]]\nname = \"desk\"\nx = [500, 5500]\ny = [500, 3500]\nz = 750\npoints = [10, 6]\nmaintenance = 800\naverage = 500\nuniformity = 600\n";
 
-const OFFICE_PANEL: &str =
+/// The luminaires of the office.
+pub const OFFICE_PANEL: &str =
     "IESNA:LM-63-2002\nTILT=NONE\n1 -1 1 10 1 1 2 0.6 0.6 0\n1 1 36\n0 10 20 30 40 50 60 70 80 90\n0\n1300 1280 1222 1126 996 836 650 445 226 0\n";
 
 // How often one shooter looks for the other.

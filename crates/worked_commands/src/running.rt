@@ -1,4 +1,4 @@
-// `run` over files in memory: what it writes, and what it reads.
+// `run` over files in memory: a file is read once.
 use crate::files::{file, lux_in_memory};
 use lux_io::{FreeGate, MemShelf, MemSink};
 use lux_top::Answer;
@@ -19,33 +19,6 @@ fn shelf(alloc: Global, project: &str, failing: &[u64]) -> Result<MemShelf, Fail
     files.push(file(alloc, "cube.toml", project)?)?;
     files.push(file(alloc, "one.ies", ONE)?)?;
     Ok(MemShelf::new(alloc, &files, failing)?)
-}
-
-#[test]
-fn a_read_that_fails_names_its_file(rt: HostRuntime) -> Result<(), Fail> {
-    let alloc = rt.alloc();
-    let rows: [(u64, &str); 2] = [(0, "cube.toml"), (1, "one.ies")];
-    for (failing, expected) in rows {
-        let mut shelf = shelf(alloc, CUBE, &[failing])?;
-        let mut out = MemSink::new(alloc, 1_000, &[])?;
-        let mut notes = MemSink::new(alloc, 1_000, &[])?;
-        let outcome = lux_in_memory(
-            &rt,
-            alloc,
-            "run cube.toml",
-            &mut shelf,
-            &mut out,
-            &mut notes,
-            &FreeGate,
-        )?;
-        match outcome.answer {
-            Answer::Read { name } => assert_eq!(rt; name.as_str(), expected),
-            _ => return Err(Fail::from("another answer")),
-        }
-        assert_eq!(rt; shelf.faults(), 1);
-        assert!(rt; out.written().is_empty());
-    }
-    Ok(())
 }
 
 // The third read would fail: the project is read, then the one file of its luminaires, and no other.
