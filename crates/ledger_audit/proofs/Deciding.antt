@@ -1,23 +1,22 @@
 -- When all tests of an audit are passed, and what its finding can be.
-use Rattle.std.proofs.Common.{◌≡◌, ◌≢◌, ℕ, ◌+◌, ◌*◌, ◌/◌, ◌<◌, ◌≤◌, ◌^◌, Bool, true, false, eqb, ◌&&◌, true≢false, List, length, get_or, Option, Some, None, IfSome, unwrap_or, refl, sym, ap, subst, ◌∙◌, arith, ext_get_or}
-use Rattle.std.specs.List.{sum, range_with_len}
+use Rattle.std.proofs.Common.{◌≡◌, ◌≢◌, ℕ, ◌*◌, ◌/◌, ◌<◌, ◌≤◌, ◌^◌, true, false, true≢false, List, length, get_or, Some, None, IfSome, unwrap_or, refl, sym, ap, subst, ◌∙◌, arith, ext_get_or}
+use Rattle.std.specs.List.{sum}
 use Rattle.std.proofs.Math.Nat.{div-mul-le_self}
 use Rattle.std.proofs.lemmas.Nat.{le-div, mul-le}
 use Rattle.std.proofs.lemmas.Bool.{leb-true, ltb-true, eqb-true, le-leb, lt-ltb, eq-eqb, and_parts, and_from}
 use Rattle.std.proofs.lemmas.List.FromFn.{get_or-map-range_with_len, fill_by_all}
-use Rattle.duties.specs.Duties.{Duty, first, each, judged}
-use Rattle.duties.proofs.Orders.{this_met, none_left, last_decides, unless_holds, unless_met, all_met, each_met, judged_ok}
-use Rattle.flux_system.specs.declared.faults.LimitFault.{LimitFault}
-use Rattle.flux_system.specs.System.{FluxSystem, scale, patches, least_keep, bound_of_takes}
+use Rattle.duties.specs.Duties.{Duty, first, each}
+use Rattle.duties.proofs.Orders.{this_met, none_left, unless_holds, unless_met, all_met, each_met}
+use Rattle.flux_system.specs.System.{FluxSystem, scale, patches, least_keep}
 use Rattle.flux_system.specs.Validity.{IsSystem}
 use Rattle.flux_system.specs.Limits.{limit_duties}
 use Rattle.flux_system.proofs.Keeping.{least_keep-above}
 use Rattle.flux_ledger.specs.declared.ledger.Ledger.{Ledger}
-use Rattle.flux_ledger.specs.Balance.{HasPatches, IsBalanced}
+use Rattle.flux_ledger.specs.Balance.{HasPatches}
 use Rattle.enclosure.specs.Interval.{interval_of, intervals_of, IsDone}
 use Rattle.ledger_audit.specs.declared.findings.Finding.{Finding}
-use Rattle.ledger_audit.specs.declared.findings.Finding.TheVariants as finding
-use Rattle.ledger_audit.specs.Findings.{size_duty, direct_duty, err_duty, residual_duty, balance_duty, wins_duty, audit_duties, finding_of, IsAccountOf, bounds_duty, is_of_bounds}
+use Rattle.ledger_audit.specs.declared.findings.Finding.TheVariants.{Balanced, Bounds}
+use Rattle.ledger_audit.specs.Findings.{direct_duty, err_duty, residual_duty, balance_duty, audit_duties, IsAccountOf, bounds_duty, is_of_bounds}
 use Rattle.ledger_audit.proofs.Firsts.{each_all, unless_tells, first_tells, none_tells, each_tells}
 
 -- a direct flux within the limits is at most 10^16 nanolumens
@@ -90,11 +89,11 @@ tests_tell s direct l =
     (first_tells P _ _ (unless_tells P _ _ refl) (none_tells P))))))
 
 -- the finding is Balanced only where no test tells anything
-pub met_where_balanced : (duty : Duty Finding) → IfSome duty (λ f. is_of_bounds f ≡ false) → unwrap_or duty finding.Balanced ≡ finding.Balanced → duty ≡ None
+pub met_where_balanced : (duty : Duty Finding) → IfSome duty (λ f. is_of_bounds f ≡ false) → unwrap_or duty Balanced ≡ Balanced → duty ≡ None
 met_where_balanced None told is = refl
 met_where_balanced (Some f) told is = absurd (true≢false (ap is_of_bounds (sym is) ∙ told))
 
-pub never_of_bounds : (duty : Duty Finding) → IfSome duty (λ f. is_of_bounds f ≡ false) → (patch low high : ℕ) → unwrap_or duty finding.Balanced ≢ finding.Bounds patch low high
+pub never_of_bounds : (duty : Duty Finding) → IfSome duty (λ f. is_of_bounds f ≡ false) → (patch low high : ℕ) → unwrap_or duty Balanced ≢ Bounds patch low high
 never_of_bounds None told patch low high is = cc
 never_of_bounds (Some f) told patch low high is = true≢false (ap is_of_bounds (sym is) ∙ told)
 
@@ -108,8 +107,8 @@ done_where_account s direct l within account = record {
 
 module _ (s : FluxSystem) (l : Ledger) (given : List (ℕ × ℕ)) where
   -- each test of a pair tells of its interval, and so never of nothing
-  pub pairs_tell : IfSome (each (patches s) (bounds_duty s l given)) (λ f. (is_of_bounds f ≡ true) × (f ≢ finding.Balanced))
-  pairs_tell = let P : Finding → Type 0 = λ f. (is_of_bounds f ≡ true) × (f ≢ finding.Balanced) in each_tells P (bounds_duty s l given) (patches s) (λ j. unless_tells P _ _ (refl, λ e. cc))
+  pub pairs_tell : IfSome (each (patches s) (bounds_duty s l given)) (λ f. (is_of_bounds f ≡ true) × (f ≢ Balanced))
+  pairs_tell = let P : Finding → Type 0 = λ f. (is_of_bounds f ≡ true) × (f ≢ Balanced) in each_tells P (bounds_duty s l given) (patches s) (λ j. unless_tells P _ _ (refl, λ e. cc))
 
   -- all tests are passed just where the pairs are the intervals
   pub intervals_where_met : length given ≡ patches s → each (patches s) (bounds_duty s l given) ≡ None → given ≡ intervals_of s l
@@ -125,10 +124,10 @@ module _ (s : FluxSystem) (l : Ledger) (given : List (ℕ × ℕ)) where
       let at = ap (λ (pairs : List (ℕ × ℕ)). get_or pairs k (0, 0)) are ∙ get_or-map-range_with_len (interval_of s l) 0 (patches s) k k (0, 0) h (omega arith) in
       unless_holds _ _ (and_from _ _ (eq-eqb _ _ (ap (λ (pair : ℕ × ℕ). pair.0) at)) (eq-eqb _ _ (ap (λ (pair : ℕ × ℕ). pair.1) at))))
 
-pub balanced_pairs : (duty : Duty Finding) → IfSome duty (λ f. (is_of_bounds f ≡ true) × (f ≢ finding.Balanced)) → unwrap_or duty finding.Balanced ≡ finding.Balanced → duty ≡ None
+pub balanced_pairs : (duty : Duty Finding) → IfSome duty (λ f. (is_of_bounds f ≡ true) × (f ≢ Balanced)) → unwrap_or duty Balanced ≡ Balanced → duty ≡ None
 balanced_pairs None told is = refl
 balanced_pairs (Some f) told is = absurd (told.1 is)
 
-pub always_of_bounds : (duty : Duty Finding) → IfSome duty (λ f. (is_of_bounds f ≡ true) × (f ≢ finding.Balanced)) → is_of_bounds (unwrap_or duty finding.Balanced) ≡ true
+pub always_of_bounds : (duty : Duty Finding) → IfSome duty (λ f. (is_of_bounds f ≡ true) × (f ≢ Balanced)) → is_of_bounds (unwrap_or duty Balanced) ≡ true
 always_of_bounds None told = refl
 always_of_bounds (Some f) told = told.0

@@ -1,5 +1,5 @@
 -- What is known of the first of some duties that isn't met, by what is known of each.
-use Rattle.std.proofs.Common.{◌≡◌, ℕ, zero, suc, ◌+◌, ◌<◌, Bool, true, false, List, [], ◌∷◌, Option, Some, None, IfSome, map, tt, refl, ◌∙◌, subst, arith}
+use Rattle.std.proofs.Common.{◌≡◌, ℕ, zero, suc, ◌+◌, ◌<◌, Bool, true, false, List, [], ◌∷◌, Some, None, IfSome, map, ◌∙◌, subst, arith}
 use Rattle.std.specs.List.{range_with_len}
 use Rattle.duties.specs.Duties.{Duty, unless, first, each}
 use Rattle.duties.proofs.Orders.{each_none, each_more}

@@ -6,23 +6,23 @@ use Rattle.flux_ledger.specs.declared.ledger.Ledger.{Ledger}
 use Rattle.flux_ledger.specs.Balance.{passed_to, IsBalanced, IsFinished}
 use Rattle.enclosure.specs.Interval.{interval_of}
 use Rattle.ledger_audit.specs.declared.findings.Finding.{Finding}
-use Rattle.ledger_audit.specs.declared.findings.Finding.TheVariants as finding
+use Rattle.ledger_audit.specs.declared.findings.Finding.TheVariants.{Balanced, Size, Direct, Err, Residual, Unbalanced, Wins, Bounds}
 
 -- the ledger has as many patches as the system
 abbrev pub size_duty : FluxSystem → Ledger → Duty Finding
-size_duty s l = unless (patches s == length l.direct) (finding.Size (patches s) (length l.direct))
+size_duty s l = unless (patches s == length l.direct) (Size (patches s) (length l.direct))
 
 -- the direct flux of patch j is the one that the ledger has
 abbrev pub direct_duty : List ℕ → Ledger → ℕ → Duty Finding
-direct_duty direct l j = unless (slice_index direct j == slice_index l.direct j) (finding.Direct j (slice_index direct j) (slice_index l.direct j))
+direct_duty direct l j = unless (slice_index direct j == slice_index l.direct j) (Direct j (slice_index direct j) (slice_index l.direct j))
 
 -- the fraction of patch j is below a nanolumen for each account
 abbrev pub err_duty : Ledger → ℕ → Duty Finding
-err_duty l j = unless (nat_lt (slice_index l.err j) (scale * l.parts)) (finding.Err j (slice_index l.err j))
+err_duty l j = unless (nat_lt (slice_index l.err j) (scale * l.parts)) (Err j (slice_index l.err j))
 
 -- the residual of patch j is below the threshold
 abbrev pub residual_duty : FluxSystem → Ledger → ℕ → Duty Finding
-residual_duty s l j = unless (nat_lt (slice_index l.residual j) s.threshold) (finding.Residual j (slice_index l.residual j))
+residual_duty s l j = unless (nat_lt (slice_index l.residual j) s.threshold) (Residual j (slice_index l.residual j))
 
 -- what was taken of patch j and what is left there, its fraction with it, in parts of a nanolumen
 abbrev pub left_side : Ledger → ℕ → ℕ
@@ -34,11 +34,11 @@ right_side s l j = scale * slice_index l.direct j + passed_to s l.taken j
 
 -- both sides of patch j are one
 abbrev pub balance_duty : FluxSystem → Ledger → ℕ → Duty Finding
-balance_duty s l j = unless (left_side l j == right_side s l j) (finding.Unbalanced j (left_side l j) (right_side s l j))
+balance_duty s l j = unless (left_side l j == right_side s l j) (Unbalanced j (left_side l j) (right_side s l j))
 
 -- there are no more wins than the bound of takes
 abbrev pub wins_duty : FluxSystem → List ℕ → ℕ → Duty Finding
-wins_duty s direct wins = unless (nat_le wins (bound_of_takes s direct)) (finding.Wins wins (bound_of_takes s direct))
+wins_duty s direct wins = unless (nat_le wins (bound_of_takes s direct)) (Wins wins (bound_of_takes s direct))
 
 -- the tests of a ledger for a flux system and a direct flux, in their order, each over all patches
 unfoldable pub audit_duties : FluxSystem → List ℕ → Ledger → List (Duty Finding)
@@ -53,13 +53,13 @@ audit_duties s direct l =
 
 -- what an audit finds: the first test that isn't passed, or that all are
 abbrev pub finding_of : FluxSystem → List ℕ → Ledger → Finding
-finding_of s direct l = unwrap_or (first (audit_duties s direct l)) finding.Balanced
+finding_of s direct l = unwrap_or (first (audit_duties s direct l)) Balanced
 
 -- the ledger is balanced and finished for the system, and of this direct flux
-pub record IsAccountOf (s : FluxSystem) (direct : List ℕ) (l : Ledger) : Type 0 where
+pub record IsAccountOf (s : FluxSystem) (flux : List ℕ) (l : Ledger) : Type 0 where
   pub balanced : IsBalanced s l
   pub finished : IsFinished s l
-  pub direct : l.direct ≡ direct
+  pub direct : l.direct ≡ flux
 
 -- both ends of the pair are those of the interval
 abbrev pub is_pair : ℕ × ℕ → ℕ × ℕ → Bool
@@ -67,14 +67,14 @@ is_pair pair interval = pair.0 == interval.0 && pair.1 == interval.1
 
 -- the pair that was given for patch j is its interval
 abbrev pub bounds_duty : FluxSystem → Ledger → List (ℕ × ℕ) → ℕ → Duty Finding
-bounds_duty s l given j = unless (is_pair (slice_index_or given j (0, 0)) (interval_of s l j)) (finding.Bounds j (interval_of s l j).0 (interval_of s l j).1)
+bounds_duty s l given j = unless (is_pair (slice_index_or given j (0, 0)) (interval_of s l j)) (Bounds j (interval_of s l j).0 (interval_of s l j).1)
 
 -- what an audit of given intervals finds: the first that isn't the interval of its patch, or that all are
 abbrev pub bounds_finding : FluxSystem → Ledger → List (ℕ × ℕ) → Finding
-bounds_finding s l given = unwrap_or (each (patches s) (bounds_duty s l given)) finding.Balanced
+bounds_finding s l given = unwrap_or (each (patches s) (bounds_duty s l given)) Balanced
 
 -- the finding tells of an interval, or of nothing amiss
 abbrev pub is_of_bounds : Finding → Bool
-is_of_bounds finding.Balanced = true
-is_of_bounds (finding.Bounds patch low high) = true
+is_of_bounds Balanced = true
+is_of_bounds (Bounds patch low high) = true
 is_of_bounds _ = false

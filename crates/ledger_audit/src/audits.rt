@@ -6,7 +6,7 @@ ghost use Rattle.flux_system.specs.Validity.{IsSystem};
 ghost use Rattle.flux_system.specs.Limits.{limit_duties};
 ghost use Rattle.flux_ledger.specs.Balance.{HasPatches};
 ghost use Rattle.enclosure.specs.Interval.{IsDone};
-ghost use Rattle.ledger_audit.specs.declared.findings.Finding.TheVariants as finding;
+ghost use Rattle.ledger_audit.specs.declared.findings.Finding.TheVariants.{Balanced, Bounds};
 ghost use Rattle.ledger_audit.specs.Findings.{direct_duty, err_duty, residual_duty, wins_duty, audit_duties, finding_of, IsAccountOf};
 
 use crate::balances::first_unbalanced;
@@ -21,10 +21,10 @@ pub fn audit(system: &System, direct: &[u64], ledger: &Ledger) -> Finding
     requires limits { first (limit_duties system.now direct.now) ≡ None }
     requires lengths { HasPatches (length ledger.now.direct) ledger.now }
     ensures finding { result ≡ finding_of system.now direct.now ledger.now }
-    ensures balanced { result ≡ finding.Balanced → IsAccountOf system.now direct.now ledger.now }
-    ensures exactly { IsAccountOf system.now direct.now ledger.now → result ≡ finding.Balanced }
-    ensures done { result ≡ finding.Balanced → IsDone system.now ledger.now }
-    ensures never_bounds { (patch low high : ℕ) → result ≢ finding.Bounds patch low high }
+    ensures balanced { result ≡ Balanced → IsAccountOf system.now direct.now ledger.now }
+    ensures exactly { IsAccountOf system.now direct.now ledger.now → result ≡ Balanced }
+    ensures done { result ≡ Balanced → IsDone system.now ledger.now }
+    ensures never_bounds { (patch low high : ℕ) → result ≢ Bounds patch low high }
 {
     first_failure(system, direct, ledger).unwrap_or(Finding::Balanced)
 }

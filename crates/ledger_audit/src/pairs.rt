@@ -4,7 +4,7 @@ ghost use Rattle.duties.specs.Duties.{each};
 ghost use Rattle.flux_system.specs.System.{patches};
 ghost use Rattle.flux_system.specs.Validity.{IsSystem};
 ghost use Rattle.enclosure.specs.Interval.{intervals_of, IsDone};
-ghost use Rattle.ledger_audit.specs.declared.findings.Finding.TheVariants as finding;
+ghost use Rattle.ledger_audit.specs.declared.findings.Finding.TheVariants.{Balanced};
 ghost use Rattle.ledger_audit.specs.Findings.{bounds_duty, bounds_finding, is_of_bounds};
 
 use crate::Finding;
@@ -18,7 +18,7 @@ pub fn audit_bounds(system: &System, ledger: &Ledger, given: &[(u64, u64)]) -> F
     requires done { IsDone system.now ledger.now }
     requires pairs { length given.now ≡ patches system.now }
     ensures finding { result ≡ bounds_finding system.now ledger.now given.now }
-    ensures exactly { (result ≡ finding.Balanced) ↔ (given.now ≡ intervals_of system.now ledger.now) }
+    ensures exactly { (result ≡ Balanced) ↔ (given.now ≡ intervals_of system.now ledger.now) }
     ensures no_other { IsTrue (is_of_bounds result) }
 {
     first_pair(system, ledger, given).unwrap_or(Finding::Balanced)

@@ -1,4 +1,4 @@
-use Rattle.std.proofs.Common.{get_or, refl, sym, ◌∙◌, arith}
+use Rattle.std.proofs.Common.{refl, sym, ◌∙◌, arith}
 use Rattle.duties.proofs.Orders.{each_none, each_more, each_fails}
 use Rattle.flux_system.specs.System.{patches}
 use Rattle.ledger_audit.specs.Findings.{direct_duty}

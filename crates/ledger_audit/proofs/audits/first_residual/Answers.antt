@@ -8,8 +8,8 @@ use Rattle.ledger_audit.proofs.audits.first_residual.Goals as goal
 pub loop-patch-init : goal.loop-patch-init
 loop-patch-init c = each_none _
 
-pub returns-then-value : goal.returns-then-value
-returns-then-value c =
+pub returns-then-value-threshold : goal.returns-then-value-threshold
+returns-then-value-threshold c =
     sym (each_fails (residual_duty c.args.system.now c.args.ledger.now) (patches c.args.system.now) c.loop-patch.patch _ (omega arith) c.loop-patch.invariant
     (residual_fails c.args.system.now c.args.ledger.now c.loop-patch.patch _ _ c.get-value.ensures c.threshold.ensures (omega arith)))
 
