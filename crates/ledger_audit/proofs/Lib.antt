@@ -1,0 +1,4 @@
+pub mod Columns
+pub mod Firsts
+pub mod Tests
+pub mod Deciding
