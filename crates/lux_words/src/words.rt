@@ -1,7 +1,7 @@
 // Words told apart.
-ghost use Rattle.std.specs.Prelude.{◌≡◌, ◌≤◌, ◌<◌, ◌-◌, length, map, filter, take, IfOk, string_bytes};
+ghost use Rattle.std.specs.Prelude.{◌≡◌, ◌≤◌, ◌<◌, length, map, take, IfOk, string_bytes};
 ghost use Rattle.std.specs.Option.{option_map};
-ghost use Rattle.lux_words.specs.Words.{is_among, is_operand, is_value, is_option, is_argument, is_command, is_own_operand, operands_of, word_at, places_behind};
+ghost use Rattle.lux_words.specs.Words.{is_among, is_operand, is_value, is_option, is_argument, is_command, is_own_operand, operands_of, word_at};
 
 use std::alloc::{AllocError, Global};
 use std::marker::Model;
