@@ -5,3 +5,6 @@ pub mod Whole
 pub mod Numerals
 pub mod Joined
 pub mod Written
+pub mod LineWords
+pub mod Inverse
+pub mod Back

@@ -41,11 +41,7 @@ fn read_patch(source: &mut Lines, patch: usize) -> Result<PatchLine, LedgerFault
 }
 
 /// The lists of a ledger of so many patches, a line for each.
-pub fn read_patches(
-    alloc: Global,
-    source: &mut Lines,
-    count: usize,
-) -> Result<Lists, LedgerFault>
+pub fn read_patches(alloc: Global, source: &mut Lines, count: usize) -> Result<Lists, LedgerFault>
     requires place { source.old.read ≡ 4 }
     requires few { count ≤ 1024 }
     ensures answer { Answers Memory (each count (patch_duty source.old.text)) result }
@@ -91,9 +87,13 @@ fn ends_on(line: &[u8], patch: usize) -> Option<(u64, u64)>
     ensures ends { IfSome result (λ ends. ends ≡ (slice_index (numbers_of interval_form (words line.now)) 1, slice_index (numbers_of interval_form (words line.now)) 2)) }
 {
     match interval_line(line) {
-        Some(IntervalLine { patch: found, low, high }) if found == patch as u64 => {
-            Some((low, high))
-        }
+        Some(
+            IntervalLine {
+                patch: found,
+                low,
+                high,
+            },
+        ) if found == patch as u64 => { Some((low, high)) }
         _ => None,
     }
 }

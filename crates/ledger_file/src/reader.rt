@@ -1,12 +1,13 @@
 // The reader of a ledger text.
-ghost use Rattle.std.specs.Prelude.{◌≡◌, ◌≢◌, ℕ, ◌+◌, ◌&&◌, ◌≤◌, ◌<◌, ◌^◌, Ok, Err, length, slice_index, nat_lt, IfOk, IfErr, IfSome, OnOk, bytes_eq, codes};
+ghost use Rattle.std.specs.Prelude.{◌≡◌, ◌≢◌, ℕ, ◌+◌, ◌&&◌, ◌≤◌, ◌<◌, ◌^◌, Ok, Err, None, length, slice_index, nat_lt, IfOk, IfErr, IfSome, OnOk, bytes_eq, codes};
 ghost use Rattle.duties.specs.Duties.{Answers, first, unless};
 ghost use Rattle.flux_ledger.specs.Balance.{HasPatches};
+ghost use Rattle.flux_ledger.specs.LedgerText.{ledger_text};
 ghost use Rattle.lux_lines.specs.Lines.{line_text};
 ghost use Rattle.lux_lines.specs.Words.{words};
 ghost use Rattle.ledger_file.specs.declared.faults.LedgerFault.TheVariants.{Memory, Header};
 ghost use Rattle.ledger_file.specs.Forms.{count_form, have_form, line_numbers, line_duty, form_duty};
-ghost use Rattle.ledger_file.specs.LedgerFiles.{patch_count, win_count, part_count, head_duties, ledger_of};
+ghost use Rattle.ledger_file.specs.LedgerFiles.{patch_count, win_count, part_count, head_duties, ledger_of, IsWritable};
 
 use crate::forms::count_line;
 use crate::lists::{read_intervals, read_patches};
@@ -26,13 +27,16 @@ struct Head {
 
 /// The ledger that a text says, and the intervals of its patches, where it has them. The first test that fails gives the
 /// error; `Memory` may come in the place of any. The lists of the ledger, and the intervals, have one length, which is 1 to
-/// `MOST_PATCHES`; whether the ledger balances isn't tested.
+/// `MOST_PATCHES`; whether the ledger balances isn't tested. Of the text that `flux_ledger::ledger_text` writes of a ledger of
+/// so many patches it gives this ledger.
 pub fn read_ledger(alloc: Global, text: &[u8]) -> Result<LedgerFile, LedgerFault>
     requires { length text.now < 2 ^ 31 }
     ensures ok { IfOk result (λ file. ledger_of text.now ≡ Ok file) }
     ensures fault { IfErr result (λ f. f ≢ Memory → ledger_of text.now ≡ Err f) }
     ensures lengths { IfOk result (λ file. HasPatches (length file.ledger.direct) file.ledger) }
     ensures intervals { IfOk result (λ file. IfSome file.intervals (λ ends. length ends ≡ length file.ledger.direct)) }
+    ensures inverse { (l : Ledger) → IsWritable l → text.now ≡ ledger_text l → IfOk result (λ file. file ≡ record { ledger = l; intervals = None }) }
+    ensures accepted { (l : Ledger) → IsWritable l → text.now ≡ ledger_text l → IfErr result (λ f. f ≡ Memory) }
 {
     let mut source = Lines::new(text);
     let head = read_head(&mut source)?;

@@ -98,8 +98,7 @@ module _ (system ledger : List ℕ) (before after : World) where
       let file = file_ledger_is system ledger before.shelf before.shelf of_ledger.0 of_ledger.1 in
       let of_audit = given_parts (accept (audited of_system.0 of_ledger.0) answer.AuditNo) (audit_report of_system.0) before.shelf after.shelf writing of_ledger.2 in
       let found = accepted_is (audited of_system.0 of_ledger.0) answer.AuditNo before.shelf before.shelf of_audit.0 of_audit.1 in
-      let settled = settlement_is (audit_writing of_system.0) before.shelf after.shelf (IsSoundLedger of_system.0 of_audit.0) writing of_audit.2 in
-      (
+      let settled = settlement_is (audit_writing of_system.0) before.shelf after.shelf (IsSoundLedger of_system.0 of_audit.0) writing of_audit.2 in (
         record { problem = of_system.0; file = of_ledger.0 },
         settled.0,
         record { is_said = record { of_system = problem.0; of_ledger = file }; within_limits = problem.1; is_ledger = sound_ledger_of of_system.0 of_ledger.0 of_audit.0 settled.0 found settled.1 },

@@ -20,10 +20,7 @@ pub enum Command {
     /// `run PROJECT [--shooters N] [--csv]`
     Run(RunWords),
     /// `audit SYSTEM LEDGER`
-    Audit {
-        system: Name,
-        ledger: Name,
-    },
+    Audit { system: Name, ledger: Name },
     /// `gen NUMBER`
     Generate(ProjectNumber),
 }
@@ -52,7 +49,11 @@ fn only_operand(alloc: Global, words: &[String], keyword: &str) -> Result<Option
 }
 
 // Both operands of a command without options, where the words are this command with two.
-fn two_operands(alloc: Global, words: &[String], keyword: &str) -> Result<Option<(Name, Name)>, AllocError>
+fn two_operands(
+    alloc: Global,
+    words: &[String],
+    keyword: &str,
+) -> Result<Option<(Name, Name)>, AllocError>
     ensures { IfOk result (λ names. names ≡ two_operands keyword.now no_options (map string_bytes words.now)) }
 {
     let Some(places) = operands(alloc, words, keyword, &Options::none())? else {

@@ -1,10 +1,11 @@
-use Rattle.std.proofs.Common.{◌≡◌, ◌≢◌, ◌∙◌, ℕ, List, Ok, Err, sym, ap, length, refl}
+use Rattle.std.proofs.Common.{◌≡◌, ◌≢◌, ◌∙◌, ℕ, List, None, Ok, Err, sym, ap, length, refl}
 use Rattle.flux_ledger.specs.declared.ledger.Ledger.{Ledger}
 use Rattle.lux_lines.specs.Walks.{LinesRead}
 use Rattle.laws.proofs.Results.{err_is}
 use Rattle.ledger_file.specs.declared.faults.LedgerFault.{LedgerFault}
 use Rattle.ledger_file.specs.declared.faults.LedgerFault.TheVariants.{Memory}
 use Rattle.ledger_file.specs.LedgerFiles.{patch_count, patch_numbers, part_count, win_count, ledger_in, intervals_in, ledger_of}
+use Rattle.ledger_file.proofs.Back.{reads_back, refuses_memory}
 use Rattle.ledger_file.proofs.Whole.{head_fails, patches_fail, ending_fails, all_met, numbers_len, intervals_len}
 use Rattle.ledger_file.proofs.reader.read_ledger.Goals as goal
 
@@ -67,3 +68,18 @@ returns-clause-intervals c =
     let n = c.in_ok-head.head.patches in
     let direct : length c.from_vec.result ≡ n = ap (λ (l : List ℕ). length l) (c.from_vec.ensures ∙ c.in_ok-lists.ensures.direct) ∙ numbers_len _ n 1 in
     rw (direct, c.in_ok-intervals.ensures.intervals) (intervals_len _ n)
+
+pub returns-clause-inverse : goal.returns-clause-inverse
+returns-clause-inverse c = λ l w is.
+    let read = returns-clause-ok c in
+    let back : ledger_of c.args.text.now ≡ Ok (record { ledger = l; intervals = None }) = rw is (reads_back l w) in
+    cc
+
+pub returns-in_err-head-clause-accepted : goal.returns-in_err-head-clause-accepted
+returns-in_err-head-clause-accepted c = λ l w is. refuses_memory c.args.text.now (record { ledger = l; intervals = None }) c.from_residual.result (rw is (reads_back l w)) (returns-in_err-head-clause-fault c)
+
+pub returns-in_err-lists-clause-accepted : goal.returns-in_err-lists-clause-accepted
+returns-in_err-lists-clause-accepted c = λ l w is. refuses_memory c.args.text.now (record { ledger = l; intervals = None }) c.from_residual-in_err-lists.result (rw is (reads_back l w)) (returns-in_err-lists-clause-fault c)
+
+pub returns-in_err-intervals-clause-accepted : goal.returns-in_err-intervals-clause-accepted
+returns-in_err-intervals-clause-accepted c = λ l w is. refuses_memory c.args.text.now (record { ledger = l; intervals = None }) c.from_residual-in_err-intervals.result (rw is (reads_back l w)) (returns-in_err-intervals-clause-fault c)
