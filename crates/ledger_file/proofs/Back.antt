@@ -1,5 +1,5 @@
 -- What `ledger_text` writes of a ledger is read as this ledger, without intervals.
-use Rattle.std.proofs.Common.{◌≡◌, ◌≢◌, ℕ, ◌+◌, ◌&&◌, false, List, [], ◌∷◌, ◌++◌, None, Result, Ok, Err, IfErr, length, refl, sym, ap, ◌∙◌, arith, append-nil}
+use Rattle.std.proofs.Common.{◌≡◌, ◌≢◌, ℕ, ◌+◌, false, List, [], ◌∷◌, ◌++◌, None, Result, Ok, Err, IfErr, length, refl, sym, ap, ◌∙◌, arith, append-nil}
 use Rattle.std.specs.Prelude.{nat_lt}
 use Rattle.std.proofs.lemmas.Bool.Decides.{nat_tests}
 use Rattle.duties.specs.Duties.{first, each}
@@ -8,7 +8,7 @@ use Rattle.flux_ledger.specs.declared.ledger.Ledger.{Ledger}
 use Rattle.lux_lines.specs.Lines.{lines}
 use Rattle.ledger_file.specs.declared.faults.LedgerFault.{LedgerFault}
 use Rattle.ledger_file.specs.declared.faults.LedgerFault.TheVariants.{Header, Short, Number, Trailing, Size, Memory}
-use Rattle.ledger_file.specs.LedgerFiles.{IsWritable, LedgerFile, patch_count, patch_duty, has_intervals, intervals_duty, end_duty, ledger_in, intervals_in, ledger_of}
+use Rattle.ledger_file.specs.LedgerFiles.{IsWritable, LedgerFile, patch_duty, has_intervals, intervals_duty, end_duty, ledger_in, intervals_in, ledger_of}
 use Rattle.ledger_file.proofs.Endings.{closed_here, no_intervals}
 use Rattle.ledger_file.proofs.Inverse.{count, patch_count_is, head_met, patches_met, ledger_is}
 use Rattle.ledger_file.proofs.Joined.{joined}

@@ -1,7 +1,7 @@
 -- What stands behind the lines of n patches.
-use Rattle.std.proofs.Common.{◌≡◌, ℕ, ◌+◌, ◌&&◌, Bool, true, false, List, [], ◌∷◌, None, Some, map, refl, ap, ◌∙◌, arith}
+use Rattle.std.proofs.Common.{◌≡◌, ℕ, ◌+◌, Bool, true, false, List, [], ◌∷◌, None, Some, map, refl, sym, ◌∙◌, arith}
 use Rattle.std.proofs.lemmas.Bool.Decides.{nat_tests}
-use Rattle.std.specs.Prelude.{nat_lt, nat_le, length, bytes_eq, codes}
+use Rattle.std.specs.Prelude.{nat_lt, length, bytes_eq, codes}
 use Rattle.std.specs.List.{range_with_len}
 use Rattle.duties.specs.Duties.{first, each}
 use Rattle.duties.proofs.Orders.{this_met, this_fails, none_left, unless_holds, unless_fails}
@@ -41,3 +41,8 @@ module _ (text : List ℕ) (n : ℕ) where
     -- a line stands behind them
     pub open_but : each n (interval_duty text n) ≡ None → nat_lt (4 + n + n) (length (lines text)) ≡ true → first (intervals_duty text n ∷ end_duty text n ∷ []) ≡ Some (Trailing (4 + n + n + 1))
     open_but met more = rw opened (this_met _ _ met ∙ this_fails _ _ _ (unless_fails _ _ (grind (arith, nat_tests))))
+
+-- a line behind those of n patches, whose first word was compared
+pub compared : (text : List ℕ) (n read : ℕ) (opens : Bool) (line : List ℕ) → read ≡ 4 + n → true ≡ nat_lt read (length (lines text)) → line ≡ line_text text read
+    → opens ≡ bytes_eq (word_at (words line) 0) (codes "interval") → has_intervals text n ≡ opens
+compared text n read opens line place there is told = let more = rw place at there in let here = rw place at is in rw (← more, ← here) (sym told)

@@ -1,5 +1,5 @@
 -- A ledger's text is read as this ledger.
-use Rattle.std.proofs.Common.{◌≡◌, ℕ, zero, suc, ◌+◌, ◌<◌, ◌≤◌, ◌^◌, ◌==◌, ◌&&◌, Bool, true, false, List, [], ◌∷◌, ◌++◌, None, Some, Ok, map, length, slice_index, get_or, refl, sym, ap, ◌∙◌, arith, codes}
+use Rattle.std.proofs.Common.{◌≡◌, ℕ, zero, suc, ◌+◌, ◌<◌, ◌≤◌, ◌^◌, ◌==◌, ◌&&◌, true, List, [], ◌∷◌, ◌++◌, None, map, length, slice_index, get_or, refl, sym, ap, ◌∙◌, arith, codes}
 use Rattle.std.specs.Prelude.{bytes_eq, nat_le, nat_lt}
 use Rattle.std.specs.Fmt.{decimal}
 use Rattle.std.specs.List.{list_all, range_with_len}
@@ -14,9 +14,8 @@ use Rattle.flux_system.specs.declared.TheConstants.{MOST_PATCHES}
 use Rattle.flux_ledger.specs.declared.ledger.Ledger.{Ledger}
 use Rattle.lux_lines.specs.Lines.{lines, line_text}
 use Rattle.lux_lines.specs.Words.{words}
-use Rattle.ledger_file.specs.declared.faults.LedgerFault.{LedgerFault}
-use Rattle.ledger_file.specs.Forms.{Place, count_form, patch_form, have_form, numbers_of, line_numbers, form_duty}
-use Rattle.ledger_file.specs.LedgerFiles.{IsWritable, patch_count, win_count, part_count, parts_duty, patch_number, patch_numbers, patch_duty, head_duties, ledger_in}
+use Rattle.ledger_file.specs.Forms.{count_form, patch_form, have_form, numbers_of, line_numbers}
+use Rattle.ledger_file.specs.LedgerFiles.{IsWritable, patch_count, win_count, part_count, patch_number, patch_numbers, patch_duty, head_duties, ledger_in}
 use Rattle.ledger_file.proofs.Joined.{is_plain, ArePlainLines, joined, line_count, line_is}
 use Rattle.ledger_file.proofs.LineWords.{is_solid, AreSmall, plain_count, plain_patch, count_fits, count_says, patch_fits, patch_says}
 use Rattle.ledger_file.proofs.Reading.{line_passes}

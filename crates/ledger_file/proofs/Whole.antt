@@ -1,5 +1,5 @@
 -- The parts of a ledger text's meaning.
-use Rattle.std.proofs.Common.{◌≡◌, ℕ, List, [], ◌∷◌, ◌++◌, Some, None, Ok, Err, length, map, ap, ◌∙◌, Bool, true, false, if◌then◌else◌, IfSome}
+use Rattle.std.proofs.Common.{◌≡◌, ℕ, List, [], ◌∷◌, Some, None, Ok, Err, length, map, ◌∙◌, Bool, true, false, if◌then◌else◌, IfSome}
 use Rattle.std.specs.List.{range_with_len}
 use Rattle.std.proofs.lemmas.List.FromFn.{length-map-range_with_len}
 use Rattle.duties.specs.Duties.{first, each}

@@ -1,6 +1,6 @@
 -- The forms of lines of a ledger text: which words and numerals stand on them, with one blank between each two. The format is
 -- this project's own.
-use Rattle.std.specs.Prelude.{ℕ, ◌+◌, ◌==◌, ◌&&◌, Bool, true, false, if◌then◌else◌, nat_lt, List, [], ◌∷◌, length, codes, Some}
+use Rattle.std.specs.Prelude.{ℕ, ◌+◌, ◌&&◌, Bool, true, false, if◌then◌else◌, nat_lt, List, [], ◌∷◌, length, codes, Some}
 use Rattle.std.specs.Str.{bytes_eq}
 use Rattle.duties.specs.Duties.{Duty, unless}
 use Rattle.lux_lines.specs.Lines.{lines, line_text}

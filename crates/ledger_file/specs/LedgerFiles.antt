@@ -1,9 +1,9 @@
 -- The ledger text as it is read: the tests of its lines in their order, the first that fails is the refusal. The format is this
 -- project's own.
-use Rattle.std.specs.Prelude.{ℕ, ◌+◌, ◌*◌, ◌==◌, ◌&&◌, ◌<◌, ◌≤◌, ◌^◌, Bool, if◌then◌else◌, nat_lt, nat_le, All, List, [], ◌∷◌, ◌++◌, length, map, slice_index, codes, Option, Some, None, Result}
+use Rattle.std.specs.Prelude.{ℕ, ◌+◌, ◌==◌, ◌&&◌, ◌<◌, ◌≤◌, ◌^◌, Bool, if◌then◌else◌, nat_lt, nat_le, All, List, [], ◌∷◌, ◌++◌, length, map, slice_index, codes, Option, Some, None, Result}
 use Rattle.std.specs.List.{range_with_len}
 use Rattle.std.specs.Str.{bytes_eq}
-use Rattle.duties.specs.Duties.{Duty, unless, first, each, judged}
+use Rattle.duties.specs.Duties.{Duty, unless, each, judged}
 use Rattle.flux_ledger.specs.Balance.{HasPatches}
 use Rattle.flux_ledger.specs.declared.ledger.Ledger.{Ledger}
 use Rattle.flux_system.specs.declared.TheConstants.{MOST_PATCHES}

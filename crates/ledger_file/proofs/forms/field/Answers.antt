@@ -1,5 +1,5 @@
-use Rattle.std.proofs.Common.{◌∷◌, [], ap}
-use Rattle.ledger_file.specs.Forms.Place.{Word, Numeral}
+use Rattle.std.proofs.Common.{◌∷◌, []}
+use Rattle.ledger_file.specs.Forms.Place.{Numeral}
 use Rattle.ledger_file.proofs.Steps.{word_then}
 use Rattle.ledger_file.proofs.forms.field.Goals as goal
 

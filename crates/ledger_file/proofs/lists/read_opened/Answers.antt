@@ -1,4 +1,4 @@
-use Rattle.std.proofs.Common.{map, ◌≡◌, ◌∙◌, ◌+◌, ◌++◌, ◌∷◌, [], ℕ, List, Some, ap, sym, refl, arith}
+use Rattle.std.proofs.Common.{map, ◌≡◌, ◌∙◌, ◌+◌, ◌++◌, ◌∷◌, [], ℕ, Some, ap, sym, refl, arith}
 use Rattle.std.specs.List.{range_with_len}
 use Rattle.duties.proofs.Orders.{each_hands_on, each_more, each_none, each_fails}
 use Rattle.laws.proofs.Ranges.{map-more}

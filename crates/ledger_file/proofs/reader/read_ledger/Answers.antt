@@ -1,10 +1,9 @@
 use Rattle.std.proofs.Common.{◌≡◌, ◌≢◌, ◌∙◌, ℕ, List, None, Ok, Err, sym, ap, length, refl}
-use Rattle.flux_ledger.specs.declared.ledger.Ledger.{Ledger}
 use Rattle.lux_lines.specs.Walks.{LinesRead}
 use Rattle.laws.proofs.Results.{err_is}
 use Rattle.ledger_file.specs.declared.faults.LedgerFault.{LedgerFault}
 use Rattle.ledger_file.specs.declared.faults.LedgerFault.TheVariants.{Memory}
-use Rattle.ledger_file.specs.LedgerFiles.{patch_count, patch_numbers, part_count, win_count, ledger_in, intervals_in, ledger_of}
+use Rattle.ledger_file.specs.LedgerFiles.{patch_count, patch_numbers, part_count, win_count, ledger_in, ledger_of}
 use Rattle.ledger_file.proofs.Back.{reads_back, refuses_memory}
 use Rattle.ledger_file.proofs.Whole.{head_fails, patches_fail, ending_fails, all_met, numbers_len, intervals_len}
 use Rattle.ledger_file.proofs.reader.read_ledger.Goals as goal
