@@ -15,7 +15,7 @@ use Rattle.lux_plans.specs.Runs.{World, Runs}
 use Rattle.lux_plans.specs.Writings.{Writing}
 use Rattle.lux_plans.proofs.Parts.{given_parts, refused_parts, accepted_is, refused_is}
 use Rattle.lux_plans.proofs.Rows.{row_of}
-use Rattle.lux_top.specs.AuditCommand.{AuditInput, AuditRefusal, AuditRow, AuditsFiles, AuditsFilesInPart, AreAuditFiles, IsFound, IsLedgerOfInput, IsSoundLedger, SaysProblem, audited, audit_plan, audit_report, audit_writing, file_audit, file_finding, input_problem, input_text, ledger_audit, ledger_unless}
+use Rattle.lux_top.specs.AuditCommand.{AuditRefusal, AuditRow, AuditsFiles, AuditsFilesInPart, AreAuditFiles, IsLedgerOfInput, IsSoundLedger, SaysProblem, audited, audit_plan, audit_report, audit_writing, file_audit, file_finding, input_problem, input_text, ledger_audit, ledger_unless}
 use Rattle.lux_top.specs.LedgerFiles.{IsFileLedger, ledger_file, most_ledger_bytes}
 use Rattle.lux_top.specs.Settlements.{no_verdict}
 use Rattle.lux_top.specs.SolveCommand.{SolveRefusal}

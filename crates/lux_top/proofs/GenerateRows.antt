@@ -1,6 +1,5 @@
 -- The rows of `gen`, from its plan.
 use Rattle.std.proofs.Common.{◌≡◌, inl, inr, ℕ, sym, subst, Ok, Err}
-use Rattle.flux_ledger.specs.declared.ledger.Ledger.{Ledger}
 use Rattle.lit_room.specs.LitRooms.{Lighting, lit_room_of}
 use Rattle.lit_room.specs.declared.faults.LightFault.{LightFault}
 use Rattle.lit_room.specs.declared.faults.LightFault.TheVariants as light

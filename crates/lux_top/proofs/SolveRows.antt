@@ -15,7 +15,6 @@ use Rattle.lux_plans.specs.Runs.{World, Runs}
 use Rattle.lux_plans.specs.Writings.{Writing}
 use Rattle.lux_plans.proofs.Parts.{given_parts, refused_parts, accepted_is, refused_is}
 use Rattle.lux_plans.proofs.Rows.{row_of}
-use Rattle.flux_ledger.specs.declared.ledger.Ledger.{Ledger}
 use Rattle.lux_top.specs.Settlements.{IsSettledLedger, no_verdict, settlement, settled_writing}
 use Rattle.lux_top.specs.SolveCommand.{problem_itself, problem_text, solve_plan, SolveRefusal, SolveRow, SolvesFile, SolvesFileInPart}
 use Rattle.lux_top.specs.SystemFiles.{Problem, most_system_bytes, problem_in_limits, within_limits, system_file, problem_file, IsFileProblem, IsWithinLimits}
