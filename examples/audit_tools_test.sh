@@ -19,7 +19,7 @@ same() {
   fi
 }
 
-# refused NOTE WORD..: the words write this line and nothing before it, or nothing that is whole, and end with 1.
+# refused NOTE WORD..: the words note this line, and end with 1.
 refused() {
   local note status
   note=$("${@:2}" 2>&1 >/dev/null)
@@ -30,18 +30,28 @@ refused() {
   fi
 }
 
-for file in batwing street spot louvre; do same "$file.ies" "examples/$file.photo.txt" "$tools/photometry.py" "examples/$file.ies"; done
-for file in batwing street spot; do same "$file.ldt" "examples/$file-eulumdat.photo.txt" "$tools/photometry.py" "examples/$file.ldt"; done
+for file in batwing street spot louvre; do
+  same "$file.ies" "examples/$file.photo.txt" "$tools/photometry.py" "examples/$file.ies"
+done
+for file in batwing street spot; do
+  same "$file.ldt" "examples/$file-eulumdat.photo.txt" "$tools/photometry.py" "examples/$file.ldt"
+done
 same small.ldt examples/small.photo.txt "$tools/photometry.py" examples/small.ldt
 same office-system examples/office.system.txt "$tools/system_text.py" examples/office/office.toml
 
 # A ledger is balanced for the system of its project alone.
-for project in closet cube corridor hall office/office classroom/classroom; do
-  "$tools/system_text.py" "examples/$project.toml" >"$room/system"
+projects="closet cube corridor hall office/office classroom/classroom"
+for project in $projects; do
+  "$tools/system_text.py" "examples/$project.toml" >"$room/${project##*/}.system" &
+done
+wait
+for project in $projects; do
+  system=$room/${project##*/}.system
   "$tools/ledger_text.sh" "examples/$project.run.txt" >"$room/ledger"
-  { echo balanced && sed -n 's/^patch \([0-9]*\) .* low \([0-9]*\) high /interval \1 \2 /p' "examples/$project.run.txt"; } >"$room/balanced"
-  same "$project" "$room/balanced" "$tools/checker.py" "$room/system" "$room/ledger"
-  [ "$(wc -c <"$room/system")" -le 16777216 ] || { failed=1 && echo "audit tools: the system of $project is too long"; }
+  echo balanced >"$room/balanced"
+  sed -n 's/^patch \([0-9]*\) .* low \([0-9]*\) high /interval \1 \2 /p' "examples/$project.run.txt" >>"$room/balanced"
+  same "$project" "$room/balanced" "$tools/checker.py" "$system" "$room/ledger"
+  [ "$(wc -c <"$system")" -le 16777216 ] || { failed=1 && echo "audit tools: the system of $project is too long"; }
 done
 "$tools/ledger_text.sh" <examples/closet.run.txt >"$room/closet.ledger"
 same ledger-from-a-pipe "$room/closet.ledger" "$tools/ledger_text.sh" examples/closet.run.txt
@@ -56,11 +66,14 @@ refused "ledger: no whole report in lines" "$tools/ledger_text.sh" "$room/cut"
 refused "ledger: no whole report in lines" "$tools/ledger_text.sh" /dev/null
 refused "ledger: usage: ledger_text.sh [REPORT]" "$tools/ledger_text.sh" "$room/cut" "$room/cut"
 refused "system_text: usage: system_text.py PROJECT" "$tools/system_text.py"
-refused "system_text: $room/cut: no project that can be used: Expected '=' after a key in a key/value pair (at line 1, column 5)" \
-  "$tools/system_text.py" "$room/cut"
+unusable="no project that can be used"
+refused "system_text: none.toml: $unusable: [Errno 2] No such file or directory: 'none.toml'" \
+  "$tools/system_text.py" none.toml
 sed 's|examples/spot|spot|' examples/closet.toml >"$room/elsewhere.toml"
-refused "system_text: spot.ies: cannot be read: No such file or directory" "$tools/system_text.py" "$room/elsewhere.toml"
+refused "system_text: spot.ies: cannot be read: No such file or directory" \
+  "$tools/system_text.py" "$room/elsewhere.toml"
 sed 's|examples/spot.ies|examples/closet.toml|' examples/closet.toml >"$room/other.toml"
-refused "system_text: examples/closet.toml: no photometry: 'width = 2000' is no number" "$tools/system_text.py" "$room/other.toml"
+refused "system_text: examples/closet.toml: no photometry: 'width = 2000' is no number" \
+  "$tools/system_text.py" "$room/other.toml"
 refused "photometry: usage: photometry.py FILE" "$tools/photometry.py"
 [ "$failed" = 0 ]

@@ -9,19 +9,18 @@ cd "$room" || exit 1
 cp "$examples/two-patches.txt" system
 cp "$examples/two-patches.solve.txt" ledger
 sed '/^interval/d' ledger >plain
-failed=0
+cases=0
 
-# answers NAME SYSTEM LEDGER LINE..: the checker's whole answer is these lines.
+# answers NAME SYSTEM LEDGER LINE..: the checker's whole answer is to be these lines. All cases are run at the end.
 answers() {
-  printf "%s\n" "${@:4}" >expected
-  python3 "$examples/checker.py" "$2" "$3" >answer 2>&1
-  if ! cmp -s answer expected; then
-    failed=1
-    echo "checker: $1: $(head -n 1 answer | cut -c 1-100), must be $4"
-  fi
+  mkdir "case-$((++cases))"
+  echo "$1" >"case-$cases/name"
+  cp "$2" "case-$cases/system"
+  cp "$3" "case-$cases/ledger"
+  printf "%s\n" "${@:4}" >"case-$cases/expected"
 }
 
-# damaged EDIT LINE, unfit EDIT LINE: the right ledger, or its system, edited by sed, has this answer.
+# damaged EDIT LINE.., unfit EDIT LINE..: the right ledger, or its system, edited by sed, has this answer.
 damaged() {
   sed "$1" ledger >damaged
   answers "ledger with $1" system damaged "${@:2}"
@@ -34,7 +33,7 @@ unfit() {
 # ledger_of WINS PARTS PATCH..: a ledger text, where a patch is its four numbers.
 ledger_of() {
   printf "%s\n" "lux-ledger 1" "patches $(($# - 2))" "wins $1" "parts $2"
-  local number=0 direct taken residual err
+  local number=0 patch direct taken residual err
   for patch in "${@:3}"; do
     read -r direct taken residual err <<<"$patch"
     echo "patch $((number++)) direct $direct taken $taken residual $residual err $err"
@@ -69,6 +68,31 @@ for text in store-room office; do
   mapfile -t intervals < <(grep '^interval' "$examples/$text.solve.txt")
   answers "$text" "$examples/$text.system.txt" "$examples/$text.solve.txt" balanced "${intervals[@]}"
 done
+
+# A patch that keeps hardly more than a twentieth beside one that keeps three quarters, and nothing is taken. The bound
+# of takes goes by the one that keeps least, and the spill by the one that passes on most of what it keeps.
+sed 's/^direct 1000/direct 9/; s/^reflectance 500/reflectance 950/; s/^shares 0 500000000/shares 0 999999999/' system >bright
+ledger_of 17 1 "9 0 9 0" "0 0 0 0" >most-wins
+answers most-wins bright most-wins balanced "interval 0 9 12" "interval 1 0 171"
+ledger_of 18 1 "9 0 9 0" "0 0 0 0" >too-many-wins
+answers too-many-wins bright too-many-wins "wins 18 17"
+
+# dark_system N: a system of so many patches without any light.
+dark_system() {
+  local zeros row
+  zeros=$(printf " 0%.0s" $(seq "$1"))
+  printf "%s\n" "lux-system 1" "patches $1" "threshold 1" "direct$zeros" "reflectance$zeros"
+  for ((row = 0; row < $1; row++)); do echo "shares$zeros"; done
+}
+dark_system 1024 >greatest
+mapfile -t patches < <(yes "0 0 0 0" | head -n 1025)
+ledger_of 0 1 "${patches[@]:1}" >greatest-ledger
+mapfile -t intervals < <(seq -f "interval %.0f 0 0" 0 1023)
+answers greatest greatest greatest-ledger balanced "${intervals[@]}"
+dark_system 1025 >greater
+answers greater greater greatest-ledger "no system: size"
+ledger_of 0 1 "${patches[@]}" >greater-ledger
+answers greater-ledger greatest greater-ledger "no ledger: head or patches"
 
 # Each finding, and of several the first in the order of the tests.
 ledger_of 4 1 "1000 1062 4 250000000000" "0 265 0 500000000000" "0 0 0 0" >three
@@ -110,18 +134,18 @@ answers invented system invented "unbalanced 0 1104250000000000 1066250000000000
 ledger_of 4 1 "1000 18014398509483046 4 250000000000" "0 265 0 500000000000" >wrapped
 answers wrapped-at-64-bits system wrapped "unbalanced 0 18014398509483050250000000000 1066250000000000"
 ledger_of 4 1 "1000 1100 -32 750000000000" "0 275 0 0" >negative
-answers negative system negative "no text of its kind: negative"
+answers negative system negative "no text of its kind: ledger"
 
 # What is no ledger text, and no system text.
-damaged 's/taken 1062/taken 18446744073709551616/' "a number of more than 64 bits: damaged"
-damaged 's/taken 1062/taken 100000000000000000000/' "no text of its kind: damaged"
-damaged 's/taken 1062/taken 01062/' "no text of its kind: damaged"
-damaged 's/taken 1062/taken +1062/' "no text of its kind: damaged"
-damaged 's/taken 1062/taken 1.062e3/' "no text of its kind: damaged"
-damaged 's/ taken/  taken/' "no text of its kind: damaged"
-damaged 's/ledger 1/ledger 2/' "no text of its kind: damaged"
-damaged '4d' "no text of its kind: damaged"
-damaged '$s/$/\n/' "no text of its kind: damaged"
+damaged 's/taken 1062/taken 18446744073709551616/' "a number of more than 64 bits: ledger"
+damaged 's/taken 1062/taken 100000000000000000000/' "no text of its kind: ledger"
+damaged 's/taken 1062/taken 01062/' "no text of its kind: ledger"
+damaged 's/taken 1062/taken +1062/' "no text of its kind: ledger"
+damaged 's/taken 1062/taken 1.062e3/' "no text of its kind: ledger"
+damaged 's/ taken/  taken/' "no text of its kind: ledger"
+damaged 's/ledger 1/ledger 2/' "no text of its kind: ledger"
+damaged '4d' "no text of its kind: ledger"
+damaged '$s/$/\n/' "no text of its kind: ledger"
 damaged 's/^parts 1/parts 4294967296/' "no ledger: head or patches"
 damaged 's/^patches 2/patches 3/' "no ledger: head or patches"
 damaged 's/^patch 0/patch 1/; t; s/^patch 1/patch 0/' "no ledger: head or patches"
@@ -133,4 +157,31 @@ unfit 's/^shares 500000000 0/shares 999999999 1/' "no system: values"
 unfit 's/^threshold 10/threshold 0/' "no system: values"
 unfit 's/^patches 2/patches 3/' "no system: size"
 unfit '$p' "no system: size"
+
+# All cases in one Python, as it is slow to start.
+python3 - "$examples/checker.py" case-* <<'END'
+import contextlib, os, runpy, sys
+
+checker, *cases = sys.argv[1:]
+sys.argv = [checker, "system", "ledger"]
+for case in cases:
+    os.chdir(case)
+    with open("answer", "w") as answer, contextlib.redirect_stdout(answer), contextlib.suppress(SystemExit):
+        runpy.run_path(checker, run_name="__main__")
+    os.chdir("..")
+END
+failed=0
+for case in case-*; do
+  if ! cmp -s "$case/answer" "$case/expected"; then
+    failed=1
+    echo "checker: $(<"$case/name"): $(head -n 1 "$case/answer" | cut -c 1-100), must be $(head -n 1 "$case/expected")"
+  fi
+done
+
+# The page has the whole program, in pieces.
+sed -n '/^```python$/,/^```$/p' "$examples/../docs/CHECKER.md" | grep -v '^```' >program
+if ! diff -B program "$examples/checker.py" >pieces; then
+  failed=1
+  echo "checker: docs/CHECKER.md has another program: $(sed -n 2p pieces)"
+fi
 [ "$failed" = 0 ]

@@ -3,8 +3,8 @@
 #
 #     ledger_text.sh [REPORT]
 #
-# Without a word it reads the report from standard input. Numbers are copied as they are written, and nothing is computed
-# or checked: that is for `lux audit` to do. Exit status: 0, and 1 where the text is no report in lines.
+# Without a word it reads the report from standard input. Numbers are copied as they are written, and nothing is
+# computed or checked: that is for `lux audit` to do. Exit status: 0, and 1 where the text is no whole report in lines.
 [ $# -le 1 ] || { echo "ledger: usage: ledger_text.sh [REPORT]" >&2 && exit 1; }
 exec awk '
   NR == 1 && $0 != "lux report 1" { exit }
