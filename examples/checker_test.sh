@@ -71,7 +71,7 @@ done
 
 # A patch that keeps hardly more than a twentieth beside one that keeps three quarters, and nothing is taken. The bound
 # of takes goes by the one that keeps least, and the spill by the one that passes on most of what it keeps.
-sed 's/^direct 1000/direct 9/; s/^reflectance 500/reflectance 950/; s/^shares 0 500000000/shares 0 999999999/' system >bright
+sed 's/^direct 1000/direct 9/; s/^reflectance 500/reflectance 950/; s/^shares 0 5.*/shares 0 999999999/' system >bright
 ledger_of 17 1 "9 0 9 0" "0 0 0 0" >most-wins
 answers most-wins bright most-wins balanced "interval 0 9 12" "interval 1 0 171"
 ledger_of 18 1 "9 0 9 0" "0 0 0 0" >too-many-wins
