@@ -30,90 +30,18 @@ import re
 import sys
 from collections import namedtuple
 
-try:
-    import tomllib
-except ImportError:
-    tomllib = None
+sys.dont_write_bytecode = True  # the module beside this program leaves nothing behind
+from rooms import SCALE, X, Y, Unusable, load_project, patches_of, round_up, rows_of, tomllib, way_between
 
 ALL_RIGHT, FAULTY, UNUSABLE, SKIPPED = 0, 1, 2, 77
 
-SCALE = 10**12  # the parts of a nanolumen in which fractions are counted, and what patches pass on and keep of it
 MOST_SHOOTERS = 16
 NUMERAL = re.compile("0|[1-9][0-9]{0,38}")
 RUN = re.compile("([0-9]+):([0-9]+):(.+)")
 VERDICTS = ("pass", "fail", "open")
-X, Y, Z = range(3)
-# For each surface of a room: the axis of its normal, whether it lies at that axis's far end, the axes along which its
-# patches go in a row and its rows go on, and what the project calls its reflectance.
-SURFACES = (
-    (Z, False, X, Y, "floor"),
-    (Z, True, X, Y, "ceiling"),
-    (X, False, Y, Z, "walls"),
-    (X, True, Y, Z, "walls"),
-    (Y, False, X, Z, "walls"),
-    (Y, True, X, Z, "walls"),
-)
-
-# The normal of a patch is an axis, towards greater (1) or smaller (-1) places. Centres are in half-millimetres.
-Patch = namedtuple("Patch", "centre normal towards area reflectance")
 Report = namedtuple("Report", "total wins parts direct taken residual err intervals answers status")
 # What a report says on a check: the ends of both values with their verdicts, and the ends of each point.
 Answer = namedtuple("Answer", "average average_verdict uniformity uniformity_verdict points")
-
-
-class Unusable(Exception):
-    """A text that can't be read as what it should be, and why."""
-
-
-def round_up(dividend, divisor):
-    """The quotient, rounded up."""
-    return -(-dividend // divisor)
-
-
-def strips(length, parts):
-    """The two ends of each part of a length, in whole millimetres: `k * length // parts` and the next."""
-    bounds = [k * length // parts for k in range(parts + 1)]
-    return list(zip(bounds, bounds[1:]))
-
-
-def patches_of(room):
-    """The patches of a room in their order: surface after surface, row after row."""
-    lengths = (room["width"], room["depth"], room["height"])
-    cuts = [strips(length, parts) for length, parts in zip(lengths, room["counts"])]
-    patches = []
-    for normal, is_far, along, onward, name in SURFACES:
-        for (low, high), (left, right) in itertools.product(cuts[onward], cuts[along]):
-            centre = [0, 0, 0]
-            centre[normal] = 2 * lengths[normal] if is_far else 0
-            centre[along] = left + right
-            centre[onward] = low + high
-            towards = -1 if is_far else 1
-            patches.append(Patch(centre, normal, towards, (right - left) * (high - low), room[name]))
-    return patches
-
-
-def weights_of(patches):
-    """For each patch the weight of each other in its light: 10^15 times the distances of the two centres in front of
-    the two planes, times the other's area, over the fourth power of the distance between the centres. It is the two
-    cosines times the area over the square of the distance, and 0 unless each centre lies in front of the other plane.
-    """
-    weights = [[0] * len(patches) for _ in patches]
-    for (i, one), (j, other) in itertools.combinations(enumerate(patches), 2):
-        x, y, z = way = tuple(map(operator.sub, other.centre, one.centre))
-        ahead = one.towards * way[one.normal]
-        back = -other.towards * way[other.normal]
-        if ahead > 0 and back > 0:
-            square = x * x + y * y + z * z
-            weights[i][j] = 10**15 * ahead * back * other.area // (square * square)
-            weights[j][i] = 10**15 * ahead * back * one.area // (square * square)
-    return weights
-
-
-def coefficients_from(patch, weights):
-    """What a patch passes on to each patch of a nanolumen, in parts: its reflectance times its share, which is the
-    weight times 10^9 - 1 over the sum of all its weights."""
-    total = max(1, sum(weights))  # all are 0 where the sum is
-    return [patch.reflectance * (weight * (10**9 - 1) // total) for weight in weights]
 
 
 def greatest_ratio(coefficients, kept):
@@ -138,7 +66,7 @@ def light_from(patch, point):
     nanolux: its reflectance times the two cosines over the square of the distance, and over pi, whose reciprocal is
     counted in parts of 10^9. It is 0 unless the point lies in front of the patch, and the patch's middle above it.
     """
-    x, y, z = way = tuple(map(operator.sub, patch.centre, point))
+    x, y, z = way = way_between(point, patch.centre)
     ahead = -patch.towards * way[patch.normal]
     if ahead <= 0 or z <= 0:
         return 0
@@ -200,7 +128,7 @@ class System:
 
     def __init__(self, project):
         patches = patches_of(project["room"])
-        rows = list(map(coefficients_from, patches, weights_of(patches)))
+        rows = [[patch.reflectance * share for share in row] for patch, row in zip(patches, rows_of(patches))]
         kept = [SCALE - sum(row) for row in rows]
         self.patches = len(patches)
         self.luminaires = len(project.get("luminaire", []))
@@ -395,9 +323,8 @@ def run_of(word):
 
 def read_project(name):
     try:
-        with open(name, "rb") as file:
-            return System(tomllib.load(file))
-    except (OSError, ValueError, KeyError, TypeError, ZeroDivisionError) as error:
+        return System(load_project(name))
+    except (KeyError, TypeError, ValueError, ZeroDivisionError) as error:
         raise Unusable(f"{name}: no project that can be used: {error}")
 
 
