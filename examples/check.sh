@@ -5,7 +5,8 @@
 # expected: `stdout` and `stderr` (absent: nothing) and `status` (absent: 0). It is run in its own folder.
 #
 # What several shooters write may differ from run to run: four projects run with 2, 4 and 16 of them, three times each,
-# or RUNS times with `check.sh RUNS`, and check_reports.py checks each report.
+# or RUNS times with `check.sh RUNS`, and check_reports.py checks each report. In the end fuzz.sh runs damaged files for
+# ten seconds.
 #
 # LUX names another program than the one that is built here.
 runs=${1:-3}
@@ -114,6 +115,16 @@ case $? in
     ;;
   77) echo "examples: the reports of several shooters are skipped: there is no python3 with tomllib, as 3.11 has it" ;;
   *) failed=$((failed + 1)) ;;
+esac
+
+LUX=$program examples/fuzz.sh 10 1 >"$room/answer" 2>&1
+case $? in
+  0) passed=$((passed + 1)) ;;
+  77) cat "$room/answer" ;;
+  *)
+    failed=$((failed + 1))
+    head -n 5 "$room/answer"
+    ;;
 esac
 
 echo "examples: $passed passed, $failed failed"

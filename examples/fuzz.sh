@@ -9,9 +9,9 @@
 #
 # LUX names another program than the one that is built here. Exit status: 0 where all runs ended as they must, 1 where
 # one did not, 2 where nothing could be run by these words, and 77 where there is no python3.
-here=$(cd "$(dirname "$0")" && pwd)
 if ! python3 -c 'import dataclasses, resource' 2>/dev/null; then
   echo "fuzz: skipped, as there is no python3"
   exit 77
 fi
-exec python3 "$here/fuzz.py" "${LUX:-$here/../crates/lux/out/lux}" "$@"
+. "$(dirname "$0")/compare.sh"
+python3 "$here/fuzz.py" "$program" "$@"
