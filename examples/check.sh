@@ -5,45 +5,12 @@
 # expected: `stdout` and `stderr` (absent: nothing) and `status` (absent: 0). It is run in its own folder.
 #
 # What several shooters write may differ from run to run: four projects run with 2, 4 and 16 of them, three times each,
-# or RUNS times with `check.sh RUNS`, and check_reports.py checks each report.
+# or RUNS times with `check.sh RUNS`, and check_reports.py checks each report. In the end fuzz.sh runs damaged files for
+# ten seconds.
 #
 # LUX names another program than the one that is built here.
 runs=${1:-3}
-here=$(cd "$(dirname "$0")" && pwd)
-if [ -n "$LUX" ]; then
-  program=$(realpath "$LUX")
-else
-  program=$here/../crates/lux/out/lux
-  [ -x "$program" ] || "$here/../build"
-fi
-if [ ! -x "$program" ]; then
-  echo "examples: the program is not built"
-  exit 1
-fi
-room=$(mktemp -d)
-trap 'rm -rf "$room"' EXIT
-passed=0 failed=0
-
-# Compares a run that left stdout, stderr and status in $room with three expected files.
-compare() {
-  local name=$1 stdout=$2 stderr=$3 status=$4
-  if cmp -s "$room/stdout" "$stdout" && cmp -s "$room/stderr" "$stderr" && [ "$(cat "$room/status")" = "$status" ]; then
-    passed=$((passed + 1))
-  else
-    failed=$((failed + 1))
-    echo "examples: $name differs: status $(cat "$room/status") (expected $status), note: $(head -c 200 "$room/stderr")"
-  fi
-}
-
-# run NAME STDOUT NOTE STATUS WORD..: runs the words in the current folder. STDOUT is a file; NOTE is a line, or nothing.
-run() {
-  local name=$1 stdout=$2 note=$3 status=$4
-  shift 4
-  "$program" "$@" >"$room/stdout" 2>"$room/stderr"
-  echo $? >"$room/status"
-  if [ -n "$note" ]; then echo "$note" >"$room/note"; else : >"$room/note"; fi
-  compare "$name" "$stdout" "$room/note" "$status"
-}
+. "$(dirname "$0")/compare.sh"
 
 # run_project NAME FILE: runs a project with one shooter, which ends with the status of its report; also as CSV, where that
 # is kept.
@@ -54,11 +21,21 @@ run_project() {
   [ ! -f "$2.run.csv" ] || run "$1-csv" "$2.run.csv" "" "$status" run "$2.toml" --shooters 1 --csv
 }
 
-: >"$room/nothing"
+# run_audit NAME SYSTEM LEDGER: audits what was settled, with its intervals and without them. Both are balanced.
+run_audit() {
+  { echo balanced && grep '^interval ' "$3"; } >"$room/balanced"
+  grep -v '^interval ' "$3" >"$room/ledger"
+  run "$1-audit" "$room/balanced" "" 0 audit "$2" "$3"
+  run "$1-audit-without-intervals" "$room/balanced" "" 0 audit "$2" "$room/ledger"
+}
+
 cd "$here" || exit 1
 run two-patches two-patches.solve.txt "" 0 solve two-patches.txt
 run store-room store-room.solve.txt "" 0 solve store-room.system.txt
 run office office.solve.txt "" 0 solve office.system.txt
+run_audit two-patches two-patches.txt two-patches.solve.txt
+run_audit store-room store-room.system.txt store-room.solve.txt
+run_audit office office.system.txt office.solve.txt
 for luminaire in batwing street spot louvre; do
   run "$luminaire" "$luminaire.photo.txt" "" 0 photo "$luminaire.ies"
 done
@@ -96,61 +73,16 @@ for case in cases/*/; do
   name=$(basename "$case")
   cd "$here/$case" || exit 1
   mapfile -t words <words
-  "$program" "${words[@]}" >"$room/stdout" 2>"$room/stderr"
-  echo $? >"$room/status"
+  answer "${words[@]}" >"$room/stdout" 2>"$room/stderr"
   stdout=stdout stderr=stderr status=0
   [ -f stdout ] || stdout=$room/nothing
   [ -f stderr ] || stderr=$room/nothing
   [ -f status ] && status=$(cat status)
   compare "$name" "$stdout" "$stderr" "$status"
+  if [ "${words[0]}" = solve ] && [ "$status" = 0 ]; then run_audit "$name" "${words[1]}" stdout; fi
 done
 
-# What a file can't hold: a folder, a text past its limit, an output that takes nothing or is closed.
-cd "$room" || exit 1
-cp "$here/two-patches.txt" two.txt
-usage="lux: usage: lux solve FILE | photo FILE | run PROJECT [--shooters N] [--csv] | audit SYSTEM LEDGER | gen NUMBER"
-run no-words nothing "$usage" 3
-run unknown-word nothing "$usage" 3 settle two.txt
-run two-files nothing "$usage" 3 solve two.txt two.txt
-run not-text nothing "$usage" 3 solve $'\xff.txt'
-run not-text-of-run nothing "$usage" 3 run $'\xff.toml' --csv
-run missing-file nothing "lux: cannot read none.txt" 6 solve none.txt
-mkdir folder
-run folder nothing "lux: cannot read folder" 6 solve folder
-truncate -s 16777216 most.txt
-run most-bytes nothing "lux: system: header" 4 solve most.txt
-truncate -s 16777217 more.txt
-run too-long nothing "lux: file too long: more.txt" 6 solve more.txt
-run missing-photometry nothing "lux: cannot read none.ies" 6 photo none.ies
-truncate -s 4194304 most.ies
-run most-photometry-bytes nothing "lux: photometry most.ies: short 2" 5 photo most.ies
-truncate -s 4194305 more.ies
-run too-long-photometry nothing "lux: file too long: more.ies" 6 photo more.ies
-cp "$here/one.ies" .
-sed 's|examples/||' "$here/cube.toml" >cube.toml
-run folder-as-project nothing "lux: cannot read folder" 6 run folder
-{ cat cube.toml; head -c $((4194304 - $(wc -c <cube.toml))) /dev/zero | tr '\0' '\n'; } >most.toml
-run most-project-bytes "$here/cube.run.txt" "" 0 run most.toml --shooters 1
-echo >>most.toml
-run too-long-project nothing "lux: file too long: most.toml" 6 run most.toml
-sed 's/one\.ies/more.ies/' cube.toml >more.toml
-run too-long-photometry-of-project nothing "lux: file too long: more.ies" 6 run more.toml
-sed 's/one\.ies/folder/' cube.toml >folder.toml
-run folder-as-photometry-of-project nothing "lux: cannot read folder" 6 run folder.toml
-
-"$program" solve two.txt >&- 2>"$room/stderr"
-echo $? >"$room/status"
-echo "lux: cannot write" >"$room/note"
-: >"$room/stdout"
-compare closed-output nothing "$room/note" 7
-"$program" run cube.toml --shooters 1 >&- 2>"$room/stderr"
-echo $? >"$room/status"
-compare closed-output-of-run nothing "$room/note" 7
-if [ -c /dev/full ]; then
-  "$program" solve two.txt >/dev/full 2>"$room/stderr"
-  echo $? >"$room/status"
-  compare full-output nothing "$room/note" 7
-fi
+. "$here/check_files.sh"
 
 # check_shooters PROJECT: runs a project with several shooters and has all reports checked, each with the status that its
 # run ended with. What a run notes goes into its report, which is then none.
@@ -183,6 +115,16 @@ case $? in
     ;;
   77) echo "examples: the reports of several shooters are skipped: there is no python3 with tomllib, as 3.11 has it" ;;
   *) failed=$((failed + 1)) ;;
+esac
+
+LUX=$program examples/fuzz.sh 10 1 >"$room/answer" 2>&1
+case $? in
+  0) passed=$((passed + 1)) ;;
+  77) cat "$room/answer" ;;
+  *)
+    failed=$((failed + 1))
+    head -n 5 "$room/answer"
+    ;;
 esac
 
 echo "examples: $passed passed, $failed failed"
