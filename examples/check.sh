@@ -106,26 +106,49 @@ check_shooters() {
   fi
 }
 
+# count STATUS TEST: counts a test that ended so; it is skipped where it ended with 77.
+count() {
+  case $1 in
+    0) passed=$((passed + 1)) ;;
+    77) echo "examples: $2 is skipped: there is no python3, or none with tomllib, as 3.11 has it" ;;
+    *)
+      failed=$((failed + 1))
+      echo "examples: $2 failed"
+      ;;
+  esac
+}
+
+# audit_runs PROJECT: runs a project with 1, 2, 4 and 16 shooters, and audits each report by the system that
+# system_text.py makes of the project. Each is balanced, and the audit's intervals are those of the report.
+audit_runs() {
+  local name=${1##*/} shooters
+  python3 examples/system_text.py "examples/$1.toml" >"$room/system"
+  for shooters in 1 2 4 16; do
+    "$program" run "examples/$1.toml" --shooters "$shooters" | examples/ledger_text.sh >"$room/ledger"
+    { echo balanced && grep '^interval' "$room/ledger"; } >"$room/balanced"
+    run "$name-audit-of-$shooters" "$room/balanced" "" 0 audit "$room/system" "$room/ledger"
+  done
+}
+
 cd "$here/.." || exit 1
 examples/check_reports_test.sh
-case $? in
-  0)
-    passed=$((passed + 1))
-    for project in closet office/office classroom/classroom hall; do check_shooters "$project"; done
-    ;;
-  77) echo "examples: the reports of several shooters are skipped: there is no python3 with tomllib, as 3.11 has it" ;;
-  *) failed=$((failed + 1)) ;;
-esac
-
+tests=$?
+count $tests check_reports_test.sh
+if [ $tests != 77 ]; then
+  for project in closet office/office classroom/classroom hall; do check_shooters "$project"; done
+fi
+examples/checker_test.sh
+count $? checker_test.sh
+examples/audit_tools_test.sh
+tests=$?
+count $tests audit_tools_test.sh
+if [ $tests != 77 ]; then
+  for project in closet cube corridor hall office/office classroom/classroom; do audit_runs "$project"; done
+fi
 LUX=$program examples/fuzz.sh 10 1 >"$room/answer" 2>&1
-case $? in
-  0) passed=$((passed + 1)) ;;
-  77) cat "$room/answer" ;;
-  *)
-    failed=$((failed + 1))
-    head -n 5 "$room/answer"
-    ;;
-esac
+tests=$?
+count $tests fuzz.sh
+[ $tests = 0 ] || [ $tests = 77 ] || head -n 5 "$room/answer"
 
 echo "examples: $passed passed, $failed failed"
 [ "$failed" = 0 ]
