@@ -126,3 +126,12 @@ fn a_note_that_fails_is_cut_off(rt: HostRuntime) -> Result<(), Fail> {
     }
     Ok(())
 }
+
+#[test]
+fn an_audit_finds_a_settled_ledger_balanced(rt: HostRuntime) -> Result<(), Fail> {
+    let alloc = rt.alloc();
+    let ending = ending_of(&rt, alloc, "audit s l", &[], &[], &[])?;
+    let written = b"balanced\ninterval 0 1066 1069\ninterval 1 265 268\n";
+    assert_ending(&rt, &ending, 0, written, b"");
+    Ok(())
+}
