@@ -1,5 +1,5 @@
-# Part of check.sh: what no folder of cases can hold. Files at their limits of length and past them, files that are none,
-# pipes in the place of files, and outputs that take nothing, are closed or lose their reader.
+# Part of check.sh: what no folder of cases can hold. Files at their limits of length and past them, files that are
+# none, pipes in the place of files, and outputs that take nothing, are closed or lose their reader.
 #
 # It runs in a room of its own, with a small system text and a small project that have right answers.
 cd "$room" || exit 1
@@ -61,10 +61,10 @@ truncate -s 4194304 most.ies
 run most-photometry-bytes nothing "lux: photometry most.ies: short 2" 5 photo most.ies
 truncate -s 4194305 more.ies
 run too-long-photometry nothing "lux: file too long: more.ies" 6 photo more.ies
-luminaire=$here/cases/photo-header-1995/luminaire.ies
-cp "$luminaire" blanks.ies
+luminaire=$here/cases/photo-no-last-line-end
+{ cat "$luminaire/luminaire.ies" && printf '\r\n'; } >blanks.ies
 fill blanks.ies 4194304 ' '
-run most-photometry-bytes-of-blanks "${luminaire%/*}/stdout" "" 0 photo blanks.ies
+run most-photometry-bytes-of-blanks "$luminaire/stdout" "" 0 photo blanks.ies
 printf ' ' >>blanks.ies
 run too-long-photometry-of-blanks nothing "lux: file too long: blanks.ies" 6 photo blanks.ies
 sed 's/one\.ies/more.ies/' cube.toml >more.toml
@@ -87,8 +87,8 @@ if [ -c /dev/null ] && [ -c /dev/zero ]; then
   run device-without-end-as-project nothing "lux: file too long: /dev/zero" 6 run /dev/zero
 fi
 
-# piped WRITER STDOUT NOTE STATUS WORD..: runs the words while the command WRITER writes into the pipe `pipe`. The program
-# has a minute, which it takes only where it waits for more than comes.
+# piped WRITER STDOUT NOTE STATUS WORD..: runs the words while the command WRITER writes into the pipe `pipe`. The
+# program has a minute, which it takes only where it waits for more than comes.
 piped() {
   local writer=$1 lux=$program program=timeout
   shift
@@ -113,7 +113,8 @@ in_parts() {
 piped "cat two.txt" ledger.txt "" 0 solve pipe
 piped "one_by_one two.txt" ledger.txt "" 0 solve pipe
 piped "in_parts two.txt" ledger.txt "" 0 solve pipe
-printf '%s\n' "photometry lm63" "symmetry axis" "gammas 0 180000" "plane 0 1000000 1000000" "plane 360000 1000000 1000000" >one.txt
+printf '%s\n' "photometry lm63" "symmetry axis" "gammas 0 180000" >one.txt
+printf 'plane %s 1000000 1000000\n' 0 360000 >>one.txt
 piped "in_parts one.ies" one.txt "" 0 photo pipe
 piped "in_parts cube.toml" "$here/cube.run.txt" "" 0 run pipe --shooters 1
 piped true nothing "lux: system: header" 4 solve pipe
@@ -175,8 +176,8 @@ if [ -c /dev/full ]; then
   muted full-notes-of-a-fault 4
 fi
 
-# A pipe whose reader has gone before anything is written, and one whose reader goes after the first byte, where the pipe
-# can't hold the rest of the report.
+# A pipe whose reader has gone before anything is written, and one whose reader goes after the first byte, where the
+# pipe can't hold the rest of the report.
 rm -f pipe
 mkfifo pipe
 exec {reader}<>pipe {writer}>pipe {reader}<&-

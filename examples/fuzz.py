@@ -242,9 +242,17 @@ def work(task):
     return fuzz.statuses, fuzz.kinds, fuzz.faulty
 
 
+def program_named(name):
+    """The path of a program, which a run in another folder finds."""
+    path = shutil.which(os.path.abspath(name))
+    if path is None:
+        raise argparse.ArgumentTypeError(f"no program: {name}")
+    return path
+
+
 def words_of(words):
     reader = argparse.ArgumentParser(prog="fuzz", description="Runs lux on damaged files.")
-    reader.add_argument("program", type=lambda name: shutil.which(os.path.abspath(name)) or reader.error(f"no program: {name}"))
+    reader.add_argument("program", type=program_named)
     reader.add_argument("seconds", type=float)
     reader.add_argument("seed", type=int, nargs="?", default=1)
     reader.add_argument("--jobs", type=int, default=1)

@@ -1,11 +1,11 @@
 #!/usr/bin/env bash
-# Refuses the program each growth of its memory in turn, one in each run, and sees that it answers want of memory: status
-# 8, the note `out of memory` and nothing on standard output; or, where it can do without, what it answers else. Then it
-# refuses each thread in turn, which must change no answer.
+# Refuses the program each growth of its memory in turn, one in each run, and sees that it answers want of memory:
+# status 8, the note `out of memory` and nothing on standard output; or, where it can do without, what it answers else.
+# Then it refuses each thread in turn, which must change no answer. It takes one to two minutes.
 #
 # It prints for each command how many growths there are, how many of them were answered with want of memory and how many
-# the program did without; and how many threads it starts. A run that ends otherwise is a line. refuse.c beside it is what
-# refuses, compiled by cc, or by the compiler that CC names.
+# the program did without; and how many threads it starts. A run that ends otherwise is a line. refuse.c beside it is
+# what refuses, compiled by cc, or by the compiler that CC names.
 #
 # LUX names another program than the one that is built here. Exit status: 0 where all runs ended as they must, 1 where
 # one did not, and 77 where there is no C compiler, or a program that isn't linked with the C library at its start.
@@ -15,8 +15,8 @@ if ! "${CC:-cc}" -O1 -shared -fPIC -o "$room/refuse.so" "$here/refuse.c" -ldl 2>
   exit 77
 fi
 
-# refuse KIND NUMBER WORD..: runs the words, and refuses the growth (GROWTH) or the thread (THREAD) of this number. There
-# was one where the file `refusal` is there afterwards.
+# refuse KIND NUMBER WORD..: runs the words, and refuses the growth (GROWTH) or the thread (THREAD) of this number.
+# There was one where the file `refusal` is there afterwards.
 refuse() {
   local kind=$1 number=$2
   shift 2
@@ -62,7 +62,7 @@ sweep() {
   refuse_each GROWTH "$@"
   growths="$((wants + others)) growths, $wants answered with want of memory, $others done without"
   refuse_each THREAD "$@"
-  echo "memory: $*: $growths; $others threads"
+  echo "memory: $*: $growths; threads: $others"
 }
 
 echo "lux: out of memory" >"$room/want"
