@@ -7,7 +7,7 @@ use std::process::Abort;
 use std::sync::Wait;
 use std::test::Fail;
 use std::thread::Threads;
-use worked_texts::{CUBE, ONE, TWO_PATCHES, TWO_PATCHES_LEDGER};
+use worked_texts::{ONE, TWO_PATCHES, TWO_PATCHES_LEDGER};
 
 /// How many bytes are put to the output at once.
 const PIECE: usize = 4_096;
@@ -25,7 +25,6 @@ fn shelf(alloc: Global, failing: &[u64]) -> Result<MemShelf, Fail> {
     let mut files = Vec::new(alloc);
     files.push(file(alloc, "s", TWO_PATCHES)?)?;
     files.push(file(alloc, "l", TWO_PATCHES_LEDGER)?)?;
-    files.push(file(alloc, "cube.toml", CUBE)?)?;
     files.push(file(alloc, "one.ies", ONE)?)?;
     files.push(file(alloc, "office.toml", OFFICE)?)?;
     files.push(file(alloc, "office.ies", OFFICE_PANEL)?)?;
@@ -62,21 +61,21 @@ fn assert_ending(rt: &impl Abort, ending: &Ending, status: u8, written: &[u8], n
 #[test]
 fn each_read_that_fails_is_noted(rt: HostRuntime) -> Result<(), Fail> {
     let alloc = rt.alloc();
-    let rows: [(&str, &[&str]); 5] = [
-        ("solve s", &["s"]),
-        ("photo one.ies", &["one.ies"]),
-        ("run cube.toml --shooters 1", &["cube.toml", "one.ies"]),
-        ("audit s l", &["s", "l"]),
-        ("gen 0", &[]),
+    let rows: [(&str, &[&str], u8); 5] = [
+        ("solve s", &["s"], 0),
+        ("photo one.ies", &["one.ies"], 0),
+        ("run office.toml", &["office.toml", "office.ies"], 1),
+        ("audit s l", &["s", "l"], 0),
+        ("gen 0", &[], 0),
     ];
-    for (line, names) in rows {
+    for (line, names, status) in rows {
         for (read, name) in names.iter().enumerate() {
             let ending = ending_of(&rt, alloc, line, &[read as u64], &[], &[])?;
             let note = format!(in alloc; "lux: cannot read {name}\n")?;
             assert_ending(&rt, &ending, 6, b"", note.as_bytes());
         }
         let ending = ending_of(&rt, alloc, line, &[names.len() as u64], &[], &[])?;
-        assert_eq!(rt; ending.status, 0);
+        assert_eq!(rt; ending.status, status);
         assert!(rt; ending.noted.is_empty());
     }
     Ok(())
