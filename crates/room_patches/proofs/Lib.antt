@@ -1,6 +1,7 @@
 pub mod Bounds
 pub mod Counts
 pub mod Rows
+pub mod Regions
 pub mod Tests
 pub mod Valid
 pub mod Distances

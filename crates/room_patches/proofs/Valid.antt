@@ -1,6 +1,6 @@
 -- Each patch of a valid room is one: its centre is a place, and its area and reflectance are within their limits.
 use Rattle.std.proofs.Common.{◌≡◌, ℕ, zero, suc, ◌+◌, ◌*◌, ◌<◌, ◌≤◌, pos, List, map, refl, arith}
-use Rattle.std.specs.Prelude.{All}
+use Rattle.std.specs.Prelude.{All, slice_index_or}
 use Rattle.std.specs.List.{range_with_len, flat_map}
 use Rattle.std.proofs.lemmas.Int.{ints}
 use Rattle.std.proofs.lemmas.Nat.{mul-le}
@@ -10,9 +10,12 @@ use Rattle.room_patches.specs.declared.surface.Surface.{Surface}
 use Rattle.room_patches.specs.declared.surface.Surface.TheVariants.{Floor, Ceiling, Left, Right, Front, Back}
 use Rattle.room_patches.specs.Cuts.{IsCut}
 use Rattle.room_patches.specs.Places.{IsCoordinate, IsPlace}
-use Rattle.room_patches.specs.Patches.{IsPatch, across, upward, place_on, axis_of, reflectance_of, patch_at, patch_row, patches_of, patches}
-use Rattle.room_patches.specs.Validity.{IsRoom}
+use Rattle.room_patches.specs.Rooms.{Room}
+use Rattle.room_patches.specs.Surfaces.{reflectance_of}
+use Rattle.room_patches.specs.Patches.{IsPatch, across, upward, place_on, axis_of, patch_at, patch_row, patches_of, patches}
+use Rattle.room_patches.specs.Validity.{IsRoom, AreRegions}
 use Rattle.room_patches.proofs.Bounds.{part-some, part-le, middle-le}
+use Rattle.room_patches.proofs.Regions.{each-or, reflects-within}
 
 module _ {X : Type 0} (P : X → Type 0) where
   -- what holds of each value of a function holds of a list of its values
@@ -27,30 +30,33 @@ module _ {X : Type 0} (P : X → Type 0) where
 coordinate-valid : (n : ℕ) → n ≤ 200000 → IsCoordinate (pos n)
 coordinate-valid n h = record { low = omega (arith, ints); high = omega (arith, ints) }
 
-module _ (room : RoomSpec) (valid : IsRoom room) where
-  across-valid : (surface : Surface) → IsCut (across room surface)
-  across-valid Floor = valid.width
-  across-valid Ceiling = valid.width
-  across-valid Left = valid.depth
-  across-valid Right = valid.depth
-  across-valid Front = valid.width
-  across-valid Back = valid.width
+module _ (spec : RoomSpec) (valid : IsRoom spec) where
+  pub across_valid : (surface : Surface) → IsCut (across spec surface)
+  across_valid Floor = valid.width
+  across_valid Ceiling = valid.width
+  across_valid Left = valid.depth
+  across_valid Right = valid.depth
+  across_valid Front = valid.width
+  across_valid Back = valid.width
 
-  upward-valid : (surface : Surface) → IsCut (upward room surface)
-  upward-valid Floor = valid.depth
-  upward-valid Ceiling = valid.depth
-  upward-valid Left = valid.height
-  upward-valid Right = valid.height
-  upward-valid Front = valid.height
-  upward-valid Back = valid.height
+  pub upward_valid : (surface : Surface) → IsCut (upward spec surface)
+  upward_valid Floor = valid.depth
+  upward_valid Ceiling = valid.depth
+  upward_valid Left = valid.height
+  upward_valid Right = valid.height
+  upward_valid Front = valid.height
+  upward_valid Back = valid.height
 
-  reflectance-valid : (surface : Surface) → reflectance_of room surface ≤ 950
+  wall-valid : (k : ℕ) → slice_index_or spec.walls k 0 ≤ 950
+  wall-valid k = each-or (λ wall. wall ≤ 950) spec.walls k 0 valid.walls (omega arith)
+
+  reflectance-valid : (surface : Surface) → reflectance_of spec surface ≤ 950
   reflectance-valid Floor = valid.floor
   reflectance-valid Ceiling = valid.ceiling
-  reflectance-valid Left = valid.walls
-  reflectance-valid Right = valid.walls
-  reflectance-valid Front = valid.walls
-  reflectance-valid Back = valid.walls
+  reflectance-valid Left = wall-valid 0
+  reflectance-valid Right = wall-valid 1
+  reflectance-valid Front = wall-valid 2
+  reflectance-valid Back = wall-valid 3
 
   axis-valid : (surface : Surface) → axis_of surface ≤ 2
   axis-valid Floor = omega arith
@@ -60,38 +66,39 @@ module _ (room : RoomSpec) (valid : IsRoom room) where
   axis-valid Front = omega arith
   axis-valid Back = omega arith
 
-  place-valid : (surface : Surface) (u v : ℕ) → u ≤ 200000 → v ≤ 200000 → IsPlace (place_on room surface u v)
+  place-valid : (surface : Surface) (u v : ℕ) → u ≤ 200000 → v ≤ 200000 → IsPlace (place_on spec surface u v)
   place-valid Floor u v hu hv = record { three = refl; x = coordinate-valid u hu; y = coordinate-valid v hv; z = coordinate-valid 0 (omega arith) }
   place-valid Ceiling u v hu hv =
       let short = valid.height.short in
-      record { three = refl; x = coordinate-valid u hu; y = coordinate-valid v hv; z = coordinate-valid (2 * room.height) (omega arith) }
+      record { three = refl; x = coordinate-valid u hu; y = coordinate-valid v hv; z = coordinate-valid (2 * spec.height) (omega arith) }
   place-valid Left u v hu hv = record { three = refl; x = coordinate-valid 0 (omega arith); y = coordinate-valid u hu; z = coordinate-valid v hv }
   place-valid Right u v hu hv =
       let short = valid.width.short in
-      record { three = refl; x = coordinate-valid (2 * room.width) (omega arith); y = coordinate-valid u hu; z = coordinate-valid v hv }
+      record { three = refl; x = coordinate-valid (2 * spec.width) (omega arith); y = coordinate-valid u hu; z = coordinate-valid v hv }
   place-valid Front u v hu hv = record { three = refl; x = coordinate-valid u hu; y = coordinate-valid 0 (omega arith); z = coordinate-valid v hv }
   place-valid Back u v hu hv =
       let short = valid.depth.short in
-      record { three = refl; x = coordinate-valid u hu; y = coordinate-valid (2 * room.depth) (omega arith); z = coordinate-valid v hv }
+      record { three = refl; x = coordinate-valid u hu; y = coordinate-valid (2 * spec.depth) (omega arith); z = coordinate-valid v hv }
 
-  patch-valid : (surface : Surface) (column row : ℕ) → column < (across room surface).parts → row < (upward room surface).parts → IsPatch (patch_at room surface column row)
+module _ (room : Room) (valid : IsRoom room.spec) (regions : AreRegions room.spec room.regions) where
+  patch-valid : (surface : Surface) (column row : ℕ) → column < (across room.spec surface).parts → row < (upward room.spec surface).parts → IsPatch (patch_at room surface column row)
   unfolding patch_at
   patch-valid surface column row in_row in_surface =
-      let a = across-valid surface in
-      let b = upward-valid surface in
+      let a = across_valid room.spec valid surface in
+      let b = upward_valid room.spec valid surface in
       record {
-        centre = place-valid surface _ _ (middle-le (across room surface) column a in_row) (middle-le (upward room surface) row b in_surface);
-        axis = axis-valid surface;
-        positive = mul-le 1 1 _ _ (part-some (across room surface) column a) (part-some (upward room surface) row b);
-        limited = mul-le _ _ 100000 100000 (part-le (across room surface) column a in_row) (part-le (upward room surface) row b in_surface);
-        reflectance = reflectance-valid surface;
+        centre = place-valid room.spec valid surface _ _ (middle-le (across room.spec surface) column a in_row) (middle-le (upward room.spec surface) row b in_surface);
+        axis = axis-valid room.spec valid surface;
+        positive = mul-le 1 1 _ _ (part-some (across room.spec surface) column a) (part-some (upward room.spec surface) row b);
+        limited = mul-le _ _ 100000 100000 (part-le (across room.spec surface) column a in_row) (part-le (upward room.spec surface) row b in_surface);
+        reflectance = reflects-within room surface _ _ (reflectance-valid room.spec valid surface) regions;
       }
 
   surface-valid : (surface : Surface) → All IsPatch (patches_of room surface)
   unfolding patches_of patch_row
   surface-valid surface =
-      all-lists IsPatch (patch_row room surface) 0 (upward room surface).parts (upward room surface).parts (omega arith)
-      (λ row in_surface. all-values IsPatch (λ column. patch_at room surface column row) 0 (across room surface).parts (across room surface).parts (omega arith)
+      all-lists IsPatch (patch_row room surface) 0 (upward room.spec surface).parts (upward room.spec surface).parts (omega arith)
+      (λ row in_surface. all-values IsPatch (λ column. patch_at room surface column row) 0 (across room.spec surface).parts (across room.spec surface).parts (omega arith)
       (λ column in_row. patch-valid surface column row in_row in_surface))
 
   pub patches-valid : All IsPatch (patches room)

@@ -8,43 +8,45 @@ use Rattle.room_patches.specs.declared.surface.Surface.{Surface}
 use Rattle.room_patches.specs.declared.surface.Surface.TheVariants.{Floor, Ceiling, Left, Right, Front, Back}
 use Rattle.room_patches.specs.Cuts.{middle, part}
 use Rattle.room_patches.specs.Places.{coordinate, IsPlace}
+use Rattle.room_patches.specs.Rooms.{Room}
+use Rattle.room_patches.specs.Surfaces.{surfaces, reflectance_at}
 
 -- the three axes of a room
 abbrev pub along_x : RoomSpec → Cut
-along_x room = record { whole = room.width; parts = room.nx }
+along_x spec = record { whole = spec.width; parts = spec.nx }
 
 abbrev pub along_y : RoomSpec → Cut
-along_y room = record { whole = room.depth; parts = room.ny }
+along_y spec = record { whole = spec.depth; parts = spec.ny }
 
 abbrev pub along_z : RoomSpec → Cut
-along_z room = record { whole = room.height; parts = room.nz }
+along_z spec = record { whole = spec.height; parts = spec.nz }
 
 -- the axis along which a surface's patches follow one another in a row
 abbrev pub across : RoomSpec → Surface → Cut
-across room Floor = along_x room
-across room Ceiling = along_x room
-across room Left = along_y room
-across room Right = along_y room
-across room Front = along_x room
-across room Back = along_x room
+across spec Floor = along_x spec
+across spec Ceiling = along_x spec
+across spec Left = along_y spec
+across spec Right = along_y spec
+across spec Front = along_x spec
+across spec Back = along_x spec
 
 -- the axis along which a surface's rows follow one another
 abbrev pub upward : RoomSpec → Surface → Cut
-upward room Floor = along_y room
-upward room Ceiling = along_y room
-upward room Left = along_z room
-upward room Right = along_z room
-upward room Front = along_z room
-upward room Back = along_z room
+upward spec Floor = along_y spec
+upward spec Ceiling = along_y spec
+upward spec Left = along_z spec
+upward spec Right = along_z spec
+upward spec Front = along_z spec
+upward spec Back = along_z spec
 
 -- the place of a surface that has these coordinates along its two axes
 abbrev pub place_on : RoomSpec → Surface → ℕ → ℕ → List ℤ
-place_on room Floor u v = pos u ∷ pos v ∷ pos 0 ∷ []
-place_on room Ceiling u v = pos u ∷ pos v ∷ pos (2 * room.height) ∷ []
-place_on room Left u v = pos 0 ∷ pos u ∷ pos v ∷ []
-place_on room Right u v = pos (2 * room.width) ∷ pos u ∷ pos v ∷ []
-place_on room Front u v = pos u ∷ pos 0 ∷ pos v ∷ []
-place_on room Back u v = pos u ∷ pos (2 * room.depth) ∷ pos v ∷ []
+place_on spec Floor u v = pos u ∷ pos v ∷ pos 0 ∷ []
+place_on spec Ceiling u v = pos u ∷ pos v ∷ pos (2 * spec.height) ∷ []
+place_on spec Left u v = pos 0 ∷ pos u ∷ pos v ∷ []
+place_on spec Right u v = pos (2 * spec.width) ∷ pos u ∷ pos v ∷ []
+place_on spec Front u v = pos u ∷ pos 0 ∷ pos v ∷ []
+place_on spec Back u v = pos u ∷ pos (2 * spec.depth) ∷ pos v ∷ []
 
 -- the axis that a surface's normal follows: 0 is x, 1 is y, 2 is z
 abbrev pub axis_of : Surface → ℕ
@@ -64,35 +66,27 @@ rises Right = false
 rises Front = true
 rises Back = false
 
-abbrev pub reflectance_of : RoomSpec → Surface → ℕ
-reflectance_of room Floor = room.floor
-reflectance_of room Ceiling = room.ceiling
-reflectance_of room Left = room.walls
-reflectance_of room Right = room.walls
-reflectance_of room Front = room.walls
-reflectance_of room Back = room.walls
-
 -- a surface's patch at a column of a row
-unfoldable pub patch_at : RoomSpec → Surface → ℕ → ℕ → Patch
+unfoldable pub patch_at : Room → Surface → ℕ → ℕ → Patch
 patch_at room surface column row = record {
-  centre = place_on room surface (middle (across room surface) column) (middle (upward room surface) row);
+  centre = place_on room.spec surface (middle (across room.spec surface) column) (middle (upward room.spec surface) row);
   axis = axis_of surface;
   rising = rises surface;
-  area = part (across room surface) column * part (upward room surface) row;
-  reflectance = reflectance_of room surface;
+  area = part (across room.spec surface) column * part (upward room.spec surface) row;
+  reflectance = reflectance_at room surface (middle (across room.spec surface) column) (middle (upward room.spec surface) row);
 }
 
 -- one row of a surface
-unfoldable pub patch_row : RoomSpec → Surface → ℕ → List Patch
-patch_row room surface row = map (λ column. patch_at room surface column row) (range_with_len 0 (across room surface).parts)
+unfoldable pub patch_row : Room → Surface → ℕ → List Patch
+patch_row room surface row = map (λ column. patch_at room surface column row) (range_with_len 0 (across room.spec surface).parts)
 
 -- a surface, row by row
-unfoldable pub patches_of : RoomSpec → Surface → List Patch
-patches_of room surface = flat_map (patch_row room surface) (range_with_len 0 (upward room surface).parts)
+unfoldable pub patches_of : Room → Surface → List Patch
+patches_of room surface = flat_map (patch_row room surface) (range_with_len 0 (upward room.spec surface).parts)
 
 -- all patches, surface by surface
-unfoldable pub patches : RoomSpec → List Patch
-patches room = flat_map (patches_of room) (Floor ∷ Ceiling ∷ Left ∷ Right ∷ Front ∷ Back ∷ [])
+unfoldable pub patches : Room → List Patch
+patches room = flat_map (patches_of room) surfaces
 
 -- how far a place lies before a patch's plane, along the normal that points into the room; negative behind the plane
 unfoldable pub distance_before : Patch → List ℤ → ℤ

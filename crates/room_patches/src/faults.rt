@@ -20,6 +20,10 @@ pub enum RoomFault {
     /// A reflectance is above `MOST_REFLECTANCE` per mille.
     #[error("reflectance")]
     Reflectance,
+    /// Region `at`, counted from 0, isn't a rectangle of one of the six surfaces with a reflectance of at most
+    /// `MOST_REFLECTANCE` per mille.
+    #[error("region {at}")]
+    Region { at: u32 },
     /// No memory was found.
     #[error("out of memory")]
     Memory,

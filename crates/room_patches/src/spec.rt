@@ -23,8 +23,8 @@ pub struct RoomSpec {
     pub floor: u32,
     /// The reflectance of the ceiling.
     pub ceiling: u32,
-    /// The reflectance of the four walls.
-    pub walls: u32,
+    /// The reflectances of the walls at x = 0, at the width, at y = 0 and at the depth.
+    pub walls: [u32; 4],
 }
 
 impl RoomSpec {

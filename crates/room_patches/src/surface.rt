@@ -1,11 +1,13 @@
 // The six surfaces of a room.
-ghost use Rattle.std.specs.Prelude.{◌≡◌, ◌<◌, ◌≤◌};
-ghost use Rattle.room_patches.specs.Cuts.{IsCut};
-ghost use Rattle.room_patches.specs.Patches.{across, upward, place_on, axis_of, rises, reflectance_of, patch_at};
+ghost use Rattle.std.specs.Prelude.{◌≡◌, ◌<◌, ◌≤◌, reverse};
+ghost use Rattle.std.specs.List.{find};
+ghost use Rattle.std.specs.Option.{option_map};
+ghost use Rattle.room_patches.specs.Surfaces.{number_of, reflectance_of, reflectance_at, covers, surfaces};
+ghost use Rattle.room_patches.specs.Patches.{across, upward, place_on, axis_of, rises, patch_at};
 ghost use Rattle.room_patches.specs.Validity.{IsRoom};
 
 use crate::cut::Cut;
-use crate::{Patch, RoomSpec};
+use crate::{Patch, Region, RoomSpec};
 
 // A surface of a room: the floor, the ceiling, and the walls at x = 0, at the width, at y = 0 and at the depth.
 #[derive(Clone, Copy)]
@@ -18,12 +20,20 @@ pub(crate) enum Surface {
     Back,
 }
 
+// The surfaces in the order of patches.
+pub(crate) const SURFACES: [Surface; 6] = [
+    Surface::Floor,
+    Surface::Ceiling,
+    Surface::Left,
+    Surface::Right,
+    Surface::Front,
+    Surface::Back,
+];
+
 impl Surface {
     // The axis along which the patches of a row follow one another.
     pub(crate) fn across(self, room: RoomSpec) -> Cut
-        requires { IsRoom room }
-        ensures value { result ≡ across room self }
-        ensures cut { IsCut result }
+        ensures { result ≡ across room self }
     {
         match self {
             Surface::Floor | Surface::Ceiling | Surface::Front | Surface::Back => room.along_x(),
@@ -33,9 +43,7 @@ impl Surface {
 
     // The axis along which the rows follow one another.
     pub(crate) fn upward(self, room: RoomSpec) -> Cut
-        requires { IsRoom room }
-        ensures value { result ≡ upward room self }
-        ensures cut { IsCut result }
+        ensures { result ≡ upward room self }
     {
         match self {
             Surface::Floor | Surface::Ceiling => room.along_y(),
@@ -44,21 +52,59 @@ impl Surface {
     }
 
     // The patch at a column of a row.
-    #[tactic(auto, unfolding(crate::specs::Patches::patch_at))]
-    pub(crate) fn patch_at(self, room: RoomSpec, column: u32, row: u32) -> Patch
+    #[tactic(auto, using(crate::proofs::Valid::across_valid, crate::proofs::Valid::upward_valid), unfolding(crate::specs::Patches::patch_at))]
+    pub(crate) fn patch_at(self, room: RoomSpec, regions: &[Region], column: u32, row: u32) -> Patch
         requires room { IsRoom room }
         requires column { column < (across room self).parts }
         requires row { row < (upward room self).parts }
-        ensures { result ≡ patch_at room self column row }
+        ensures { result ≡ patch_at (record { spec = room; regions = regions.now }) self column row }
     {
         let across = self.across(room);
         let upward = self.upward(room);
+        let u = across.middle(column);
+        let v = upward.middle(row);
         Patch {
-            centre: self.place_on(room, across.middle(column), upward.middle(row)),
+            centre: self.place_on(room, u, v),
             axis: self.axis(),
             rising: self.rises(),
             area: u64::from(across.part(column)) * u64::from(upward.part(row)),
-            reflectance: self.reflectance(room),
+            reflectance: self.reflectance_at(room, regions, u, v),
+        }
+    }
+
+    // What the surface reflects at a place: as much as the last region there, or else as the surface itself.
+    #[tactic(auto, unfolding(crate::specs::Surfaces::reflectance_at))]
+    fn reflectance_at(self, room: RoomSpec, regions: &[Region], u: u32, v: u32) -> u32
+        ensures { result ≡ reflectance_at (record { spec = room; regions = regions.now }) self u v }
+    {
+        match self.last_region(regions, u, v) {
+            Some(region) => region.reflectance,
+            None => self.reflectance(room),
+        }
+    }
+
+    // The last region that lies on the surface and contains the place with these coordinates.
+    fn last_region(self, regions: &[Region], u: u32, v: u32) -> Option<&Region>
+        ensures { option_map (λ region. region.now) result ≡ find (covers self u v) (reverse regions.now) }
+    {
+        let number = self.number();
+        regions
+            .iter()
+            .rev()
+            .find(|region| region.surface == number && region.contains(u, v))
+    }
+
+    // The surface's number in the order of patches.
+    fn number(self) -> u32
+        ensures { result ≡ number_of self }
+    {
+        match self {
+            Surface::Floor => 0,
+            Surface::Ceiling => 1,
+            Surface::Left => 2,
+            Surface::Right => 3,
+            Surface::Front => 4,
+            Surface::Back => 5,
         }
     }
 
@@ -102,13 +148,17 @@ impl Surface {
         }
     }
 
+    // What the surface reflects where no region lies.
     fn reflectance(self, room: RoomSpec) -> u32
         ensures { result ≡ reflectance_of room self }
     {
         match self {
             Surface::Floor => room.floor,
             Surface::Ceiling => room.ceiling,
-            Surface::Left | Surface::Right | Surface::Front | Surface::Back => room.walls,
+            Surface::Left => room.walls[0],
+            Surface::Right => room.walls[1],
+            Surface::Front => room.walls[2],
+            Surface::Back => room.walls[3],
         }
     }
 }

@@ -7,4 +7,4 @@ pub loop-column-preserved : goal.loop-column-preserved
 loop-column-preserved c =
     c.in_ok-push.ensures.items
     ∙ ((λ k. c.loop-column.invariant k ++ c.patch_at.ensures k ∷ [])
-    ∙ values-more (λ column. patch_at c.args.room c.args.surface column c.args.row) c.args.all.now.items c.loop-column.column)
+    ∙ values-more (λ column. patch_at (record { spec = c.args.room; regions = c.args.regions.now }) c.args.surface column c.args.row) c.args.all.now.items c.loop-column.column)

@@ -6,7 +6,7 @@ use Rattle.room_patches.proofs.room.Room.patch.Goals as goal
 
 pub returns-clause-patch : goal.returns-clause-patch
 returns-clause-patch c =
-    let each = All-same IsPatch c.self.inside.patches.items (patches c.self.inside.spec) c.self.invariant.all (patches-valid c.self.inside.spec c.self.invariant.valid) in
+    let each = All-same IsPatch c.self.inside.patches.items _ c.self.invariant.all (patches-valid _ c.self.invariant.valid c.self.invariant.regions) in
     let long = ap length c.self.invariant.all in
     let view = ap (λ r. length (patches r)) c.self.view_is in
     subst IsPatch (sym c.index.ensures) (each c.args.i c.index.result.now (omega arith))

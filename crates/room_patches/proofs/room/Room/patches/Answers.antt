@@ -1,9 +1,9 @@
 use Rattle.std.proofs.Common.{◌∙◌}
 use Rattle.std.proofs.lemmas.List.Elements.{All-same}
-use Rattle.room_patches.specs.Patches.{patches, IsPatch}
+use Rattle.room_patches.specs.Patches.{IsPatch}
 use Rattle.room_patches.proofs.Valid.{patches-valid}
 use Rattle.room_patches.proofs.room.Room.patches.Goals as goal
 
 pub returns-clause-patch : goal.returns-clause-patch
 returns-clause-patch c =
-    All-same IsPatch c.as_slice.result.now (patches c.self.inside.spec) (c.as_slice.ensures.value ∙ c.self.invariant.all) (patches-valid c.self.inside.spec c.self.invariant.valid)
+    All-same IsPatch c.as_slice.result.now _ (c.as_slice.ensures.value ∙ c.self.invariant.all) (patches-valid _ c.self.invariant.valid c.self.invariant.regions)

@@ -1,6 +1,6 @@
 use Rattle.std.proofs.Common.{sym, ◌∙◌}
 use Rattle.room_patches.proofs.Tests.{refused_by_number, refused_by_reflectance}
-use Rattle.room_patches.proofs.checks.room_fault.Goals as goal
+use Rattle.room_patches.proofs.checks.spec_fault.Goals as goal
 
 pub returns-then-n : goal.returns-then-n
 returns-then-n c =
