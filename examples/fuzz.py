@@ -3,7 +3,7 @@
 
     fuzz.py PROGRAM SECONDS [SEED] [--jobs N] [--kinds]
 
-Each run is `photo`, `solve`, `run` (with up to 16 shooters, as lines and as CSV), `audit` where the program knows it, or
+Each run is `photo`, `solve`, `run` (with up to 64 shooters, as lines and as CSV), `audit` where the program knows it, or
 words that are mostly no command. Its files are examples in which bits are flipped, lines and words dropped, doubled and
 exchanged, numbers replaced by ones at and beside limits, texts cut, and two of them joined: mostly in one place, so that
 many are accepted and most faults deep in a text are met. fuzz_inputs.py makes them. Some runs get little memory, and
