@@ -140,6 +140,18 @@ audit_runs() {
   done
 }
 
+# audit_case FOLDER: audits the kept report of a case by the system of its project, as above.
+audit_case() {
+  local name
+  name=$(basename "$1")
+  cd "$1" || exit 1
+  python3 "$here/system_text.py" project.toml >"$room/system"
+  "$here/ledger_text.sh" stdout >"$room/ledger"
+  { echo balanced && grep '^interval' "$room/ledger"; } >"$room/balanced"
+  run "$name-audit" "$room/balanced" "" 0 audit "$room/system" "$room/ledger"
+  cd "$here/.." || exit 1
+}
+
 cd "$here/.." || exit 1
 examples/check_reports_test.sh
 tests=$?
@@ -158,6 +170,10 @@ count $tests audit_tools_test.sh
 if [ $tests != 77 ]; then
   for project in closet cube corridor hall office/office classroom/classroom seminar-room/seminar-room; do
     audit_runs "$project"
+  done
+  # Which patches have the reflectance of which region, another program decides once more.
+  for case in "$here"/cases/run-region-*/ "$here"/cases/run-walls-*/; do
+    if [ -f "$case/stdout" ]; then audit_case "$case"; fi
   done
 fi
 LUX=$program examples/migrate_test.sh >"$room/answer" 2>&1

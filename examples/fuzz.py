@@ -40,7 +40,7 @@ from dataclasses import dataclass
 from fuzz_inputs import Input, Inputs
 
 SECONDS = 60  # that a run has
-AMPLE = 2**31  # bytes of addresses that a run has
+AMPLE = 2**32  # bytes of addresses that a run has: 64 threads reserve much
 NO_WORDS = 3  # how the program ends that is run without words
 DONE, LOST, NO_MEMORY = (0, 1, 2), 7, 8
 NOTES = {
