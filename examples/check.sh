@@ -128,12 +128,12 @@ count() {
   esac
 }
 
-# audit_runs PROJECT: runs a project with 1, 2, 4 and 16 shooters, and audits each report by the system that
+# audit_runs PROJECT: runs a project with 1, 2, 4, 16 and 64 shooters, and audits each report by the system that
 # system_text.py makes of the project. Each is balanced, and the audit's intervals are those of the report.
 audit_runs() {
   local name=${1##*/} shooters
   python3 examples/system_text.py "examples/$1.toml" >"$room/system"
-  for shooters in 1 2 4 16; do
+  for shooters in 1 2 4 16 64; do
     "$program" run "examples/$1.toml" --shooters "$shooters" | examples/ledger_text.sh >"$room/ledger"
     { echo balanced && grep '^interval' "$room/ledger"; } >"$room/balanced"
     run "$name-audit-of-$shooters" "$room/balanced" "" 0 audit "$room/system" "$room/ledger"
