@@ -40,7 +40,7 @@ same small.ldt examples/small.photo.txt "$tools/photometry.py" examples/small.ld
 same office-system examples/office.system.txt "$tools/system_text.py" examples/office/office.toml
 
 # A ledger is balanced for the system of its project alone.
-projects="closet cube corridor hall office/office classroom/classroom"
+projects="closet cube corridor hall office/office classroom/classroom seminar-room/seminar-room"
 for project in $projects; do
   "$tools/system_text.py" "examples/$project.toml" >"$room/${project##*/}.system" &
 done

@@ -4,9 +4,9 @@
 # A case is a folder of cases/ with the files `words` (one word a line) and whatever the words name, and with what is
 # expected: `stdout` and `stderr` (absent: nothing) and `status` (absent: 0). It is run in its own folder.
 #
-# What several shooters write may differ from run to run: four projects run with 2, 4 and 16 of them, three times each,
-# or RUNS times with `check.sh RUNS`, and check_reports.py checks each report. In the end fuzz.sh runs damaged files for
-# ten seconds.
+# What several shooters write may differ from run to run: five projects run with 2, 4 and 16 of them and the sports hall
+# with 64, three times each, or RUNS times with `check.sh RUNS`, and check_reports.py checks each report. In the end
+# fuzz.sh runs damaged files for ten seconds.
 #
 # LUX names another program than the one that is built here.
 runs=${1:-3}
@@ -47,9 +47,19 @@ cd "$here/.." || exit 1
 for project in closet cube corridor hall; do
   run_project "$project" "examples/$project"
 done
-for project in office classroom; do
+for project in office classroom seminar-room; do
   run_project "$project" "examples/$project/$project"
 done
+
+# The report of the sports hall has half a million bytes, and is kept as what its checks say and as a checksum. The
+# report itself is needed once more below.
+hall=examples/sports-hall/sports-hall
+hall_report=$room/sports-hall.run.txt
+answer run $hall.toml --shooters 1 >"$hall_report" 2>"$room/stderr"
+grep -v -E '^(patch [0-9]|point )' "$hall_report" >"$room/stdout"
+compare sports-hall-checks $hall.checks.txt "$room/nothing" 0
+sha256sum <"$hall_report" | cut -d ' ' -f 1 >"$room/stdout"
+compare sports-hall-bytes $hall.run.sha256 "$room/nothing" 0
 
 # draw NAME PLAN NOTE STATUS WORD..: draws a plan in characters. PLAN is a file; NOTE is a line, or nothing.
 draw() {
@@ -84,12 +94,12 @@ done
 
 . "$here/check_files.sh"
 
-# check_shooters PROJECT: runs a project with several shooters and has all reports checked, each with the status that its
-# run ended with. What a run notes goes into its report, which is then none.
+# check_shooters PROJECT REFERENCE SHOOTERS..: runs a project with several shooters and has all reports checked, each
+# with the status that its run ended with. What a run notes goes into its report, which is then none.
 check_shooters() {
-  local name=${1##*/} project=examples/$1.toml reference=examples/$1.run.txt shooters number report
+  local name=${1##*/} project=$1.toml reference=$2 shooters number report
   local reports=("1:$(sed -n 's/^status //p' "$reference"):$reference")
-  for shooters in 2 4 16; do
+  for shooters in "${@:3}"; do
     for ((number = 1; number <= runs; number++)); do
       report=$room/$name-$shooters-$number
       "$program" run "$project" --shooters "$shooters" >"$report" 2>&1
@@ -118,16 +128,28 @@ count() {
   esac
 }
 
-# audit_runs PROJECT: runs a project with 1, 2, 4 and 16 shooters, and audits each report by the system that
+# audit_runs PROJECT: runs a project with 1, 2, 4, 16 and 64 shooters, and audits each report by the system that
 # system_text.py makes of the project. Each is balanced, and the audit's intervals are those of the report.
 audit_runs() {
   local name=${1##*/} shooters
   python3 examples/system_text.py "examples/$1.toml" >"$room/system"
-  for shooters in 1 2 4 16; do
+  for shooters in 1 2 4 16 64; do
     "$program" run "examples/$1.toml" --shooters "$shooters" | examples/ledger_text.sh >"$room/ledger"
     { echo balanced && grep '^interval' "$room/ledger"; } >"$room/balanced"
     run "$name-audit-of-$shooters" "$room/balanced" "" 0 audit "$room/system" "$room/ledger"
   done
+}
+
+# audit_case FOLDER: audits the kept report of a case by the system of its project, as above.
+audit_case() {
+  local name
+  name=$(basename "$1")
+  cd "$1" || exit 1
+  python3 "$here/system_text.py" project.toml >"$room/system"
+  "$here/ledger_text.sh" stdout >"$room/ledger"
+  { echo balanced && grep '^interval' "$room/ledger"; } >"$room/balanced"
+  run "$name-audit" "$room/balanced" "" 0 audit "$room/system" "$room/ledger"
+  cd "$here/.." || exit 1
 }
 
 cd "$here/.." || exit 1
@@ -135,7 +157,10 @@ examples/check_reports_test.sh
 tests=$?
 count $tests check_reports_test.sh
 if [ $tests != 77 ]; then
-  for project in closet office/office classroom/classroom hall; do check_shooters "$project"; done
+  for project in closet office/office classroom/classroom hall seminar-room/seminar-room; do
+    check_shooters "examples/$project" "examples/$project.run.txt" 2 4 16
+  done
+  check_shooters $hall "$hall_report" 64
 fi
 examples/checker_test.sh
 count $? checker_test.sh
@@ -143,8 +168,18 @@ examples/audit_tools_test.sh
 tests=$?
 count $tests audit_tools_test.sh
 if [ $tests != 77 ]; then
-  for project in closet cube corridor hall office/office classroom/classroom; do audit_runs "$project"; done
+  for project in closet cube corridor hall office/office classroom/classroom seminar-room/seminar-room; do
+    audit_runs "$project"
+  done
+  # Which patches have the reflectance of which region, another program decides once more.
+  for case in "$here"/cases/run-region-*/ "$here"/cases/run-walls-*/; do
+    if [ -f "$case/stdout" ]; then audit_case "$case"; fi
+  done
 fi
+LUX=$program examples/migrate_test.sh >"$room/answer" 2>&1
+tests=$?
+count $tests migrate_test.sh
+[ $tests = 0 ] || [ $tests = 77 ] || head -n 5 "$room/answer"
 LUX=$program examples/fuzz.sh 10 1 >"$room/answer" 2>&1
 tests=$?
 count $tests fuzz.sh

@@ -28,6 +28,7 @@ import itertools
 import operator
 import re
 import sys
+from array import array
 from collections import namedtuple
 
 sys.dont_write_bytecode = True  # the module beside this program leaves nothing behind
@@ -35,21 +36,13 @@ from rooms import SCALE, X, Y, Unusable, load_project, patches_of, round_up, row
 
 ALL_RIGHT, FAULTY, UNUSABLE, SKIPPED = 0, 1, 2, 77
 
-MOST_SHOOTERS = 16
+MOST_SHOOTERS = 64
 NUMERAL = re.compile("0|[1-9][0-9]{0,38}")
 RUN = re.compile("([0-9]+):([0-9]+):(.+)")
 VERDICTS = ("pass", "fail", "open")
 Report = namedtuple("Report", "total wins parts direct taken residual err intervals answers status")
 # What a report says on a check: the ends of both values with their verdicts, and the ends of each point.
 Answer = namedtuple("Answer", "average average_verdict uniformity uniformity_verdict points")
-
-
-def greatest_ratio(coefficients, kept):
-    """The coefficient and the kept part whose quotient is the greatest. Two different quotients of whole numbers up to
-    10^12 are at least 10^-24 apart, so that they keep their order where they are cut to 24 decimals."""
-    ratios = [coefficient * SCALE**2 // part for coefficient, part in zip(coefficients, kept)]
-    steepest = ratios.index(max(ratios))
-    return coefficients[steepest], kept[steepest]
 
 
 def points_of(check):
@@ -127,20 +120,34 @@ class System:
     """
 
     def __init__(self, project):
-        patches = patches_of(project["room"])
-        rows = [[patch.reflectance * share for share in row] for patch, row in zip(patches, rows_of(patches))]
-        kept = [SCALE - sum(row) for row in rows]
+        patches = patches_of(project)
         self.patches = len(patches)
         self.luminaires = len(project.get("luminaire", []))
         self.grids = [Grid(check, patches) for check in project.get("check", [])]
         self.threshold = project["solver"]["threshold"]
-        self.columns = list(zip(*rows))
-        self.least_kept = min(kept)
-        self.steepest = [greatest_ratio(column, kept) for column in self.columns]
+        self.rows, self.least_kept = [], SCALE
+        # Of each patch the coefficient and the kept part whose quotient is the greatest.
+        self.steepest = [(0, SCALE)] * self.patches
+        for patch, shares in zip(patches, rows_of(patches)):
+            self.add_row(array("Q", (patch.reflectance * share for share in shares)))
 
-    def passed_to(self, j, taken):
-        """What all that was taken passes on to patch j, in parts: the sum over i of taken[i] * coefficient[i][j]."""
-        return sum(map(operator.mul, taken, self.columns[j]))
+    def add_row(self, row):
+        """Adds what the next patch passes on to each patch."""
+        kept = SCALE - sum(row)
+        self.rows.append(row)
+        self.least_kept = min(self.least_kept, kept)
+        for j, coefficient in enumerate(row):
+            greatest, of_kept = self.steepest[j]
+            if coefficient * of_kept > greatest * kept:
+                self.steepest[j] = coefficient, kept
+
+    def passed_on(self, taken):
+        """What all that was taken passes on to each patch j, in parts: the sum over i of taken[i] * coefficient[i][j]."""
+        passed = [0] * self.patches
+        for amount, row in zip(taken, self.rows):
+            if amount:
+                passed = list(map(operator.add, passed, map(operator.mul, row, itertools.repeat(amount))))
+        return passed
 
     def intervals(self, report):
         """The interval of each patch that follows from a finished and balanced ledger, in nanolumens:
@@ -255,8 +262,9 @@ def faults_in_all(system, shooters, report):
         yield f"too many wins: they keep at least {least_kept} parts, and the direct flux is {direct}"
 
 
-def faults_at(j, system, reference, report, interval):
-    """What is wrong with a report at patch j, where this interval follows from its ledger.
+def faults_at(j, system, reference, report, passed, interval):
+    """What is wrong with a report at patch j, to which so much is passed on, where this interval follows from its
+    ledger.
 
     It balances where what is there is what came, in parts: 10^12 * (taken + residual) + err of the patch is
     10^12 * direct and what all that was taken passes on to it.
@@ -265,7 +273,7 @@ def faults_at(j, system, reference, report, interval):
     if direct != reference.direct[j]:
         yield f"direct {direct}, must be {reference.direct[j]}"
     there = SCALE * (taken + residual) + err
-    came = SCALE * direct + system.passed_to(j, report.taken)
+    came = SCALE * direct + passed
     if there != came:
         yield f"not balanced: there is {there}, and {came} came"
     if err >= SCALE * report.parts:
@@ -301,8 +309,8 @@ def faults_on(grid, direct_lights, intervals, answer):
 def faults_of(system, reference, shooters, status, report):
     """All that is wrong with a report of so many shooters, whose run ended with this status."""
     yield from faults_in_all(system, shooters, report)
-    for j, interval in enumerate(system.intervals(report)):
-        yield from (f"patch {j}: {fault}" for fault in faults_at(j, system, reference, report, interval))
+    for j, (passed, interval) in enumerate(zip(system.passed_on(report.taken), system.intervals(report))):
+        yield from (f"patch {j}: {fault}" for fault in faults_at(j, system, reference, report, passed, interval))
     for grid, direct_lights, answer in zip(system.grids, reference.direct_lights, report.answers):
         faults = faults_on(grid, direct_lights, report.intervals, answer)
         yield from (f"check {grid.name}: {fault}" for fault in faults)

@@ -31,7 +31,7 @@ columns, kept = list(zip(*rows)), [PARTS - sum(row) for row in rows]
 
 (size,), (wins,), (parts,), *lines = read(sys.argv[2], LEDGER)
 patches, ends = ([line for line in lines if len(line) == length] for length in (5, 3))
-require(size <= 1024 and parts < 2**32 and [j for j, *_ in patches] == [*range(size)], "no ledger: head or patches")
+require(size <= 4096 and parts < 2**32 and [j for j, *_ in patches] == [*range(size)], "no ledger: head or patches")
 require([j for j, *_ in ends] in ([], [*range(size)]), "no ledger: intervals")
 
 require(size == n, "size", n, size)

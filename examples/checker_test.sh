@@ -85,12 +85,14 @@ dark_system() {
   for ((row = 0; row < $1; row++)); do echo "shares$zeros"; done
 }
 dark_system 1024 >greatest
-mapfile -t patches < <(yes "0 0 0 0" | head -n 1025)
-ledger_of 0 1 "${patches[@]:1}" >greatest-ledger
+mapfile -t patches < <(yes "0 0 0 0" | head -n 4097)
+ledger_of 0 1 "${patches[@]:0:1024}" >as-many
 mapfile -t intervals < <(seq -f "interval %.0f 0 0" 0 1023)
-answers greatest greatest greatest-ledger balanced "${intervals[@]}"
+answers greatest greatest as-many balanced "${intervals[@]}"
 dark_system 1025 >greater
-answers greater greater greatest-ledger "no system: size"
+answers greater greater as-many "no system: size"
+ledger_of 0 1 "${patches[@]:1}" >greatest-ledger
+answers greatest-ledger greatest greatest-ledger "size 1024 4096"
 ledger_of 0 1 "${patches[@]}" >greater-ledger
 answers greater-ledger greatest greater-ledger "no ledger: head or patches"
 

@@ -3,7 +3,7 @@
 
     fuzz.py PROGRAM SECONDS [SEED] [--jobs N] [--kinds]
 
-Each run is `photo`, `solve`, `run` (with up to 16 shooters, as lines and as CSV), `audit` where the program knows it, or
+Each run is `photo`, `solve`, `run` (with up to 64 shooters, as lines and as CSV), `audit` where the program knows it, or
 words that are mostly no command. Its files are examples in which bits are flipped, lines and words dropped, doubled and
 exchanged, numbers replaced by ones at and beside limits, texts cut, and two of them joined: mostly in one place, so that
 many are accepted and most faults deep in a text are met. fuzz_inputs.py makes them. Some runs get little memory, and
@@ -40,7 +40,7 @@ from dataclasses import dataclass
 from fuzz_inputs import Input, Inputs
 
 SECONDS = 60  # that a run has
-AMPLE = 2**31  # bytes of addresses that a run has
+AMPLE = 2**32  # bytes of addresses that a run has: 64 threads reserve much
 NO_WORDS = 3  # how the program ends that is run without words
 DONE, LOST, NO_MEMORY = (0, 1, 2), 7, 8
 NOTES = {

@@ -14,12 +14,14 @@ FILE = re.compile(rb'(?m)^(file *= *)"([^"\\]*)"')
 # What a name with a line feed is written with: such a name makes a note of more than one line, and is left out.
 LINE_FEEDS = re.compile(rb"\\[nuUx]|\"\"\"|'''")
 LIMITS = [str(number).encode() for number in (
-    *range(-1, 6), 9, 10, 19, 64, 65, 90, 180, 270, 360, 500, 721, 722, 950, 951, 999, 1000, 1001, 1024, 1025, 4096,
-    4097, 90000, 100000, 100001, 180000, 359999, 360000, 360001, 10**6, 10**8, 10**8 + 1, 10**9 - 1, 10**9, 10**9 + 1,
-    10**12, 2**31 - 1, 2**31, 2**32 - 1, 2**32, 10**15, 10**16, 10**16 + 1, 2**63 - 1, 2**63, 2**64 - 1, 2**64, 2**128,
-    10**30,
+    *range(-1, 7), 9, 10, 16, 17, 19, 64, 65, 90, 180, 270, 360, 500, 721, 722, 950, 951, 999, 1000, 1001, 1024, 1025,
+    4096, 4097, 90000, 100000, 100001, 180000, 359999, 360000, 360001, 10**6, 10**8, 10**8 + 1, 10**9 - 1, 10**9,
+    10**9 + 1, 10**12, 2**31 - 1, 2**31, 2**32 - 1, 2**32, 10**15, 10**16, 10**16 + 1, 2**63 - 1, 2**63, 2**64 - 1,
+    2**64, 2**128, 10**30,
 )] + [b"1e308", b"1e99", b"1e-99", b"0.5", b"-0", b"1.", b".5", b"+1", b"00", b"1e", b"nan", b"0x10"]
-OTHER_KINDS = [b"1.5", b'"1"', b"true", b"[1]", b"[]", b"{}", b"[1, 2]", b"[1, 2, 3]", b"[0.5, 1]", b"1979-05-27"]
+OTHER_KINDS = [
+    b"1.5", b'"1"', b"true", b"[1]", b"[]", b"{}", b"[1, 2]", b"[1, 2, 3]", b"[0, 1, 2, 950]", b"[0.5, 1]", b"1979-05-27"
+]
 BYTES = [b" ", b"\t", b"\n", b"\r\n", b"\r", b",", b"-", b"0", b"\0", b"\x1a", b"\xff"]
 FILE_LIMIT, TEXT_LIMIT = 4_194_304, 16_777_216
 
@@ -246,14 +248,14 @@ class Inputs:
         if lamps and dice.random() < 0.2:
             lamp = dice.choice(list(files))
             files[lamp] = damaged(dice, files[lamp], self.corpus.luminaires)
-        options = dice.choice([[], ["--csv"]]) + dice.choice([[], ["--shooters", str(dice.randrange(1, 17))]])
+        options = dice.choice([[], ["--csv"]]) + dice.choice([[], ["--shooters", str(dice.randrange(1, 65))]])
         words = dice.choice([["project", *options], [*options, "project"]])
         return Input(["run", *words], {"project": padded(dice, text, FILE_LIMIT), **files})
 
     def words(self, dice):
         """Words that are mostly no command, over files that are right."""
         names = ["system", "lamp", "project", "none", "."]
-        known = ["solve", "photo", "run", "audit", "gen", "--csv", "--shooters", "--", "-", "", "0", "16", "17", "9999"]
+        known = ["solve", "photo", "run", "audit", "gen", "--csv", "--shooters", "--", "-", "", "0", "64", "65", "9999"]
         lamp = self.corpus.luminaires[0]
         files = {"system": self.corpus.systems[0], "lamp": lamp, "project": self.corpus.projects[0][0], "lamp0": lamp}
         return Input(dice.choices(known + names, k=dice.randrange(5)), files)

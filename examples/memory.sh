@@ -86,6 +86,7 @@ sweep run examples/cube.toml --shooters 2
 # A report with a check as CSV, notes with a name and with a number, and the command that reads no file.
 sweep run examples/closet.toml --shooters 1 --csv
 sweep run examples/cases/run-check-misspelt/project.toml
+sweep run examples/cases/run-region-key-of-the-second/project.toml
 sweep photo examples/cases/photo-cut-after-token-07/luminaire.ies
 sweep gen 0
 echo "memory: $failed runs ended otherwise"

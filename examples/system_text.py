@@ -8,7 +8,8 @@ With it the ledger of a report of that project can be audited: what `lux run` se
 ledger and no system. All is computed here once more by the formulas of docs/FORMATS.md, from the project and its
 photometry files alone, in whole numbers, where `//` is the quotient, cut. The files' names are paths from the current
 folder, as they are for `lux run`. It is there for projects that `lux run` accepts; as Python reads TOML 1.0, it refuses
-those few that are TOML 1.1 alone, such as one with a byte order mark or an inline table on several lines.
+those few that are TOML 1.1 alone, such as one with a byte order mark or an inline table on several lines. A system text
+has at most 1,024 patches, so that of a larger room is none that `lux audit` reads.
 
 Exit status: 0, 1 where no text can be made, and 77 where this Python can't read a project.
 """
@@ -104,7 +105,7 @@ def direct_flux(patches, luminaires):
 
 
 def system_lines(project):
-    patches = patches_of(project["room"])
+    patches = patches_of(project)
     yield "lux-system 1"
     yield f"patches {len(patches)}"
     yield f"threshold {project['solver']['threshold']}"

@@ -3,7 +3,7 @@
  *     cc -O2 -o tracer examples/truth/tracer.c -lm && ./tracer examples/office/office.toml 100000
  *
  * The first word is a project of `lux run`, the second how many paths start at each point (100000 without it). The
- * room's counts and the solver's table are passed over. A luminaire's file must be IES LM-63 with TILT=NONE and one
+ * room's counts and the solver's table are passed over, and regions are where they are, whatever the counts. A luminaire's file must be IES LM-63 with TILT=NONE and one
  * plane. Of TOML it reads what the examples are written in: a key and its value on a line, plain decimal numbers, no
  * quoted or dotted keys, and no blanks within the brackets of a table's head. It judges nothing: `lux run` says whether
  * a project is right.
@@ -25,7 +25,7 @@
 #include <stdlib.h>
 #include <string.h>
 
-enum { LUMINAIRES = 256, CHECKS = 32, ANGLES = 721, NAME = 256 };
+enum { LUMINAIRES = 256, CHECKS = 32, REGIONS = 16, ANGLES = 721, NAME = 256 };
 
 static const double PI = 3.14159265358979323846;
 
@@ -49,13 +49,21 @@ struct check {
     double maintenance; /* 0 to 1 */
 };
 
-enum { FLOOR, CEILING, WALLS };
+struct region {
+    int surface;
+    double u[2], v[2];  /* metres */
+    double reflectance; /* 0 to 1 */
+};
 
-static double size[3];        /* metres */
-static double reflectance[3]; /* 0 to 1 */
+/* The surfaces of a room in their order, in pairs: that at 0 of an axis and that at its end. */
+enum { FLOOR, CEILING, WALLS, SURFACES = 6 };
+
+static double size[3];               /* metres */
+static double reflectance[SURFACES]; /* 0 to 1 */
 static struct luminaire luminaires[LUMINAIRES];
 static struct check checks[CHECKS];
-static int luminaire_count, check_count;
+static struct region regions[REGIONS];
+static int luminaire_count, check_count, region_count;
 
 static void refuse(const char *what, const char *name)
 {
@@ -148,6 +156,21 @@ static int hit(double place[3], const double way[3], double *sign)
     return axis;
 }
 
+/* The reflectance of a place on the surface whose normal goes along an axis, in the direction of a sign: that of the
+ * last region around it, and else the surface's. */
+static double reflectance_at(const double place[3], int axis, double sign)
+{
+    int first = axis == 2 ? FLOOR : axis == 0 ? WALLS : WALLS + 2, surface = sign > 0 ? first : first + 1;
+    double u = place[axis == 0 ? 1 : 0], v = place[axis == 2 ? 1 : 2];
+
+    for (int i = region_count - 1; i >= 0; i--) {
+        const struct region *of = &regions[i];
+        if (of->surface == surface && of->u[0] <= u && u < of->u[1] && of->v[0] <= v && v < of->v[1])
+            return of->reflectance;
+    }
+    return reflectance[surface];
+}
+
 /* Lux that one path from a point brings by way of the surfaces. */
 static double reflected(const double point[3])
 {
@@ -157,7 +180,7 @@ static double reflected(const double point[3])
     for (;;) {
         scatter(way, axis, sign);
         axis = hit(place, way, &sign);
-        left *= reflectance[axis != 2 ? WALLS : sign > 0 ? FLOOR : CEILING];
+        left *= reflectance_at(place, axis, sign);
         if (left == 0)
             return sum;
         sum += left * direct(place, axis, sign);
@@ -180,6 +203,21 @@ static void pair(const char *text, double into[2])
         refuse("not two numbers", text);
 }
 
+/* The walls' reflectances: a number for all four, or a list of four. */
+static void walls(const char *text, double into[4])
+{
+    double one = number(text) / 1000;
+
+    for (int i = 0; i < 4; i++)
+        into[i] = one;
+    if (!strchr(text, '['))
+        return;
+    if (sscanf(text, " [ %lf , %lf , %lf , %lf", &into[0], &into[1], &into[2], &into[3]) != 4)
+        refuse("not four numbers", text);
+    for (int i = 0; i < 4; i++)
+        into[i] /= 1000;
+}
+
 static void word(const char *text, char into[NAME])
 {
     if (sscanf(text, " \"%255[^\"]", into) != 1)
@@ -198,7 +236,8 @@ static void read_project(const char *name)
         if (sscanf(line, " [[%63[a-z]]]", table) == 1) {
             luminaire_count += !strcmp(table, "luminaire");
             check_count += !strcmp(table, "check");
-            if (luminaire_count > LUMINAIRES || check_count > CHECKS)
+            region_count += !strcmp(table, "region");
+            if (luminaire_count > LUMINAIRES || check_count > CHECKS || region_count > REGIONS)
                 refuse("too many tables", table);
             continue;
         }
@@ -211,7 +250,7 @@ static void read_project(const char *name)
             if (!strcmp(key, "height")) size[2] = number(text) / 1000;
             if (!strcmp(key, "floor")) reflectance[FLOOR] = number(text) / 1000;
             if (!strcmp(key, "ceiling")) reflectance[CEILING] = number(text) / 1000;
-            if (!strcmp(key, "walls")) reflectance[WALLS] = number(text) / 1000;
+            if (!strcmp(key, "walls")) walls(text, &reflectance[WALLS]);
         } else if (!strcmp(table, "luminaire")) {
             struct luminaire *to = &luminaires[luminaire_count - 1];
             if (!strcmp(key, "file")) word(text, to->file);
@@ -236,6 +275,17 @@ static void read_project(const char *name)
                 to->points[1] = (int)both[1];
             }
             if (!strcmp(key, "maintenance")) to->maintenance = number(text) / 1000;
+        } else if (!strcmp(table, "region")) {
+            struct region *to = &regions[region_count - 1];
+            double both[2];
+            if (!strcmp(key, "surface")) to->surface = (int)number(text);
+            if (!strcmp(key, "u") || !strcmp(key, "v")) {
+                pair(text, both);
+                double *bounds = key[0] == 'u' ? to->u : to->v;
+                bounds[0] = both[0] / 1000;
+                bounds[1] = both[1] / 1000;
+            }
+            if (!strcmp(key, "reflectance")) to->reflectance = number(text) / 1000;
         }
     }
     fclose(file);
