@@ -9,8 +9,8 @@ ghost use Rattle.system_file.specs.Rows.{numbers, line_duty};
 ghost use Rattle.system_file.specs.SystemText.{patch_count, head_duties, list_duties, shares_in, system_of};
 ghost use Rattle.system_file.specs.Shapes.{narrow_number};
 
-use crate::{MOST_LISTED_PATCHES, SysFault};
 use crate::rows::{append_row, read_number, read_row};
+use crate::{MOST_LISTED_PATCHES, SysFault};
 use flux_system::System;
 use lux_lines::Lines;
 use std::alloc::Global;
