@@ -3,7 +3,8 @@ use Rattle.std.proofs.Common.{◌≡◌, ℕ, zero, suc, ◌*◌, ◌/◌, ◌<�
 use Rattle.std.specs.List.{sum, sum_by}
 use Rattle.std.proofs.lemmas.Bool.{cases_lt, ne_eqb}
 use Rattle.std.proofs.lemmas.Nat.{mul-le, div-add-mod'}
-use Rattle.std.proofs.lemmas.List.{take_all, length-map, take-map, map-map}
+use Rattle.std.proofs.lemmas.List.{take_all, length-map, take-map}
+use Rattle.std.proofs.lemmas.Simd.{map-map}
 use Rattle.std.proofs.lemmas.List.Sums.{sum_by-cons, sum-map}
 use Rattle.transfer_shares.specs.Shares.{weight_share, shares_of}
 
