@@ -109,14 +109,17 @@ project_room project = record { spec = project.room; regions = project.regions }
 abbrev pub number_at : Option Data → ℕ → ℕ
 number_at value i = toml_number (slice_get (toml_list value) i)
 
+-- the first four numbers of a list
+abbrev pub four_numbers : List Data → List ℕ
+four_numbers values =
+    toml_number (slice_get values 0) ∷ toml_number (slice_get values 1) ∷ toml_number (slice_get values 2) ∷ toml_number (slice_get values 3) ∷ []
+
 -- the reflectances of the four walls that a room's table says: one for all, or in version 2 each
 abbrev pub walls_of : Version → Members → List ℕ
 walls_of One t =
     let wall = toml_number (get_member (codes "walls") t) in
     wall ∷ wall ∷ wall ∷ wall ∷ []
-walls_of Two t =
-    let walls = get_member (codes "walls") t in
-    number_at walls 0 ∷ number_at walls 1 ∷ number_at walls 2 ∷ number_at walls 3 ∷ []
+walls_of Two t = four_numbers (toml_list (get_member (codes "walls") t))
 
 -- the room that a table says
 unfoldable pub room_of : Version → Members → RoomSpec

@@ -16,7 +16,7 @@ use crate::checks::read_checks;
 use crate::luminaires::read_luminaires;
 use crate::regions::read_regions;
 use crate::rooms::read_room;
-use crate::sections::Section;
+use crate::sections::{Section, value_at};
 use crate::tables::TableAt;
 use crate::versions::Version;
 use crate::{ProjFault, Project};
@@ -89,7 +89,7 @@ fn read_table(alloc: Global, table: &Table) -> Result<Project, ProjFault>
 fn read_version(table: &Table) -> Option<Version>
     ensures { result ≡ version_in (table_view table.now) }
 {
-    Version::numbered(table.get("version")?.as_integer()?)
+    Version::numbered(value_at(table, "version")?.as_integer()?)
 }
 
 // The project of a tree of this version.

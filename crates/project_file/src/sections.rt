@@ -13,7 +13,7 @@ ghost use Rattle.project_file.specs.declared.faults.ProjFault.TheVariants as fau
 ghost use Rattle.project_file.specs.Names.{numbered, prefix, fitting_front, or_quotation_marks, fault_name};
 ghost use Rattle.project_file.specs.FieldDuties.{member_keys, first_key, keys_duty, field_duty};
 ghost use Rattle.project_file.specs.Tables.{fields_of};
-ghost use Rattle.project_file.specs.Projects.{listed_table, number_at};
+ghost use Rattle.project_file.specs.Projects.{listed_table, number_at, four_numbers};
 ghost use Rattle.project_file.specs.Shapes.{are_names};
 ghost use Rattle.project_file.specs.Fields.{toml_items, required_field, optional_field, number as numbers, text as texts, table as tables, list, is_number_within, is_text_within, is_label_byte, is_label, is_label_text, has_exactly, has_at_most, is_any_value, toml_number, toml_text, toml_table, toml_list, is_kind};
 
@@ -30,6 +30,14 @@ pub struct Section<'a> {
     pub alloc: Global,
     pub table_at: TableAt,
     pub table: &'a Table,
+}
+
+/// The value at a key of a table.
+pub fn value_at<'a>(table: &'a Table, key: &str) -> Option<&'a Value>
+    ensures none { IfNone result (get_member key.now (table_view table.now) ≡ None) }
+    ensures some { IfSome result (λ value. get_member key.now (table_view table.now) ≡ Some (view value.now)) }
+{
+    table.get(key)
 }
 
 /// The table at a place of a list of tables.
@@ -86,14 +94,6 @@ fn or_quotation_marks(text: &str) -> &str
 }
 
 impl<'a> Section<'a> {
-    // The value at a key.
-    fn get(&self, key: &str) -> Option<&'a Value>
-        ensures none { IfNone result (get_member key.now (table_view self.now.table.now) ≡ None) }
-        ensures some { IfSome result (λ value. get_member key.now (table_view self.now.table.now) ≡ Some (view value.now)) }
-    {
-        self.table.get(key)
-    }
-
     // The path to a field.
     fn path(&self, key: &str) -> Result<String, AllocError>
         ensures { IfOk result (λ path. string_bytes path ≡ prefix self.now.table_at ++ key.now) }
@@ -187,7 +187,7 @@ impl<'a> Section<'a> {
         ensures least { IfOk result (λ n. least ≤ n) }
         ensures greatest { IfOk result (λ n. n ≤ greatest) }
     {
-        let Some(value) = self.get(key) else {
+        let Some(value) = value_at(self.table, key) else {
             return Err(self.missing_fault(key));
         };
         let Some(number) = value.as_integer() else {
@@ -224,7 +224,7 @@ impl<'a> Section<'a> {
         ensures value { IfOk result (λ text. text.now ≡ toml_text (get_member key.now (table_view self.now.table.now))) }
         ensures named { IfOk result (λ text. IsName text.now) }
     {
-        let Some(value) = self.get(key) else {
+        let Some(value) = value_at(self.table, key) else {
             return Err(self.missing_fault(key));
         };
         let Some(text) = value.as_str() else {
@@ -243,7 +243,7 @@ impl<'a> Section<'a> {
         ensures value { IfOk result (λ text. text.now ≡ toml_text (get_member key.now (table_view self.now.table.now))) }
         ensures label { IfOk result (λ text. is_label text.now ≡ true) }
     {
-        let Some(value) = self.get(key) else {
+        let Some(value) = value_at(self.table, key) else {
             return Err(self.missing_fault(key));
         };
         let Some(text) = value.as_str() else {
@@ -261,7 +261,7 @@ impl<'a> Section<'a> {
         ensures answer { Answers fault.Memory (field_duty self.now.table_at (table_view self.now.table.now) (required_field key.now tables is_any_value)) result }
         ensures value { IfOk result (λ t. table_view t.now ≡ toml_table (get_member key.now (table_view self.now.table.now))) }
     {
-        let Some(value) = self.get(key) else {
+        let Some(value) = value_at(self.table, key) else {
             return Err(self.missing_fault(key));
         };
         match value.as_table() {
@@ -277,7 +277,7 @@ impl<'a> Section<'a> {
         ensures first { IfOk result (λ n. n.0 ≡ number_at (get_member key.now (table_view self.now.table.now)) 0) }
         ensures second { IfOk result (λ n. n.1 ≡ number_at (get_member key.now (table_view self.now.table.now)) 1) }
     {
-        let Some(value) = self.get(key) else {
+        let Some(value) = value_at(self.table, key) else {
             return Err(self.missing_fault(key));
         };
         let Some(pair) = value.as_array() else {
@@ -300,7 +300,7 @@ impl<'a> Section<'a> {
         ensures second { IfOk result (λ n. n.1 ≡ number_at (get_member key.now (table_view self.now.table.now)) 1) }
         ensures third { IfOk result (λ n. n.2 ≡ number_at (get_member key.now (table_view self.now.table.now)) 2) }
     {
-        let Some(value) = self.get(key) else {
+        let Some(value) = value_at(self.table, key) else {
             return Err(self.missing_fault(key));
         };
         let Some(items) = value.as_array() else {
@@ -319,9 +319,9 @@ impl<'a> Section<'a> {
     #[tactic(auto, using(crate::proofs::Lists::lists), unfolding(crate::specs::FieldDuties::field_duty, duties::specs::Duties::unless, duties::specs::Duties::first))]
     pub fn four(&self, key: &str) -> Result<[u32; 4], ProjFault>
         ensures answer { Answers fault.Memory (field_duty self.now.table_at (table_view self.now.table.now) (required_field key.now (list numbers) (has_exactly 4 (is_number_within 0 (2 ^ 32 - 1))))) result }
-        ensures value { IfOk result (λ n. let value = get_member key.now (table_view self.now.table.now) in n ≡ number_at value 0 ∷ number_at value 1 ∷ number_at value 2 ∷ number_at value 3 ∷ []) }
+        ensures value { IfOk result (λ n. n ≡ four_numbers (toml_list (get_member key.now (table_view self.now.table.now)))) }
     {
-        let Some(value) = self.get(key) else {
+        let Some(value) = value_at(self.table, key) else {
             return Err(self.missing_fault(key));
         };
         let Some(items) = value.as_array() else {
@@ -344,7 +344,7 @@ impl<'a> Section<'a> {
         ensures few { IfOk result (λ items. length items.now ≤ most) }
         ensures tables { IfOk result (λ items. list_all (is_kind tables) (toml_items (items_view items.now)) ≡ true) }
     {
-        let Some(value) = self.get(key) else {
+        let Some(value) = value_at(self.table, key) else {
             return Ok(&[]);
         };
         let Some(items) = value.as_array() else {

@@ -1,9 +1,10 @@
 // What texts and lists of a project file say.
-ghost use Rattle.std.specs.Prelude.{◌≡◌, ◌^◌, ◌-◌, [], ◌∷◌, length, true, false, if◌then◌else◌, ◌==◌, ◌&&◌, slice_get, Some, None, IfNone, IfSome, is_some};
+ghost use Rattle.std.specs.Prelude.{◌≡◌, ◌^◌, ◌-◌, length, true, false, if◌then◌else◌, ◌==◌, ◌&&◌, slice_get, Some, None, IfNone, IfSome, is_some};
 ghost use Rattle.std.specs.List.{list_all};
 ghost use Rattle.toml.specs.Data.{as_integer, as_table};
 ghost use Rattle.toml.specs.View.{view, items_view};
 ghost use Rattle.project_file.specs.Fields.{toml_items, is_number_within, is_label_byte, is_label, toml_number};
+ghost use Rattle.project_file.specs.Projects.{four_numbers};
 
 use toml::Value;
 
@@ -80,7 +81,7 @@ pub fn three_of(items: &[Value]) -> Option<(u32, u32, u32)>
 pub fn four_of(items: &[Value]) -> Option<[u32; 4]>
     ensures none { IfNone result (((length (toml_items (items_view items.now)) == 4) && list_all (is_number_within 0 (2 ^ 32 - 1)) (toml_items (items_view items.now))) ≡ false) }
     ensures some { IfSome result (λ _. ((length (toml_items (items_view items.now)) == 4) && list_all (is_number_within 0 (2 ^ 32 - 1)) (toml_items (items_view items.now))) ≡ true) }
-    ensures value { IfSome result (λ n. let number = λ i. toml_number (slice_get (toml_items (items_view items.now)) i) in n ≡ number 0 ∷ number 1 ∷ number 2 ∷ number 3 ∷ []) }
+    ensures value { IfSome result (λ n. n ≡ four_numbers (toml_items (items_view items.now))) }
 {
     if items.len() != 4 {
         return None;
