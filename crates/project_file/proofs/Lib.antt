@@ -1,9 +1,9 @@
 pub mod Boundaries
-pub mod ListedChecks
+pub mod ListedTables
 pub mod Files
 pub mod Keys
 pub mod Lists
 pub mod Repetitions
 pub mod Steps
-pub mod Versions
+pub mod KnownVersions
 pub mod Webs

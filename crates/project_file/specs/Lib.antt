@@ -3,4 +3,5 @@ pub mod Fields
 pub mod Names
 pub mod Projects
 pub mod Tables
+pub mod Versions
 pub mod Shapes

@@ -2,7 +2,7 @@
 use Rattle.std.specs.Prelude.{ℕ, zero, suc, ◌==◌, ◌&&◌, ◌||◌, nat_lt, nat_le, Bool, if◌then◌else◌, List, [], ◌++◌, length, take, slice_index, codes}
 use Rattle.std.specs.Fmt.{decimal}
 use Rattle.project_file.specs.declared.tables.TableAt.{TableAt}
-use Rattle.project_file.specs.declared.tables.TableAt.TheVariants.{Top, Room, Solver, Luminaire, Check}
+use Rattle.project_file.specs.declared.tables.TableAt.TheVariants.{Top, Room, Solver, Luminaire, Check, Region}
 
 -- what stands before a key of an element of a list, which are numbered from 0
 abbrev pub numbered : List ℕ → ℕ → List ℕ
@@ -10,11 +10,12 @@ numbered list number = list ++ codes "." ++ decimal number ++ codes "."
 
 -- what stands before a key of this table
 abbrev pub prefix : TableAt → List ℕ
-prefix Top = []
-prefix Room = codes "room."
+prefix (Top version) = []
+prefix (Room version) = codes "room."
 prefix Solver = codes "solver."
 prefix (Luminaire number) = numbered (codes "luminaire") number
 prefix (Check number) = numbered (codes "check") number
+prefix (Region number) = numbered (codes "region") number
 
 -- the text ends at this index, or the byte there begins a character: one from 128 to 191 stands within a character
 abbrev pub is_boundary : List ℕ → ℕ → Bool

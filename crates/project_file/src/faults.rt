@@ -12,7 +12,7 @@ pub enum ProjFault {
     /// The bytes aren't UTF-8, or the text is no TOML document.
     #[error("no TOML document")]
     Toml,
-    /// The version is absent or isn't the number 1.
+    /// The version is absent or isn't the number 1 or 2.
     #[error("version")]
     Version,
     /// A table has a key that is no field of it.

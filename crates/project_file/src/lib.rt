@@ -11,8 +11,12 @@ mod faults;
 mod luminaires;
 mod project;
 mod reader;
+mod regions;
+mod rooms;
 mod sections;
 mod tables;
+mod values;
+mod versions;
 
 pub use faults::ProjFault;
 pub use project::Project;

@@ -6,14 +6,16 @@ ghost use Rattle.project_file.specs.Projects.{IsProject, IsCheck};
 use compliance::CheckSpec;
 use fixtures::FixtureSpec;
 use lux_io::Name;
-use room_patches::RoomSpec;
+use room_patches::{Region, RoomSpec};
 use std::marker::Model;
 
-/// A room to light, the residual flux at which the solver stops, the files of the photometries, the luminaires, each of
-/// which has the number of its file as its web, and the checks of its light. Contracts see it as the record of these.
+/// A room to light and the regions of its surfaces, the residual flux at which the solver stops, the files of the
+/// photometries, the luminaires, each of which has the number of its file as its web, and the checks of its light.
+/// Contracts see it as the record of these.
 #[derive(Debug, Drop)]
 pub struct Project {
     room: RoomSpec,
+    regions: Vec<Region>,
     threshold: u64,
     files: Vec<Name>,
     fixtures: Vec<FixtureSpec>,
@@ -25,25 +27,27 @@ impl Model for Project {
 
     ghost Value = { Project };
 
-    ghost view = { λ p. record { room = p.room; threshold = p.threshold; files = p.files.items; fixtures = p.fixtures.items; checks = p.checks.items } };
+    ghost view = { λ p. record { room = p.room; regions = p.regions.items; threshold = p.threshold; files = p.files.items; fixtures = p.fixtures.items; checks = p.checks.items } };
 
-    ghost invariant = { λ p. IsProject p.threshold p.files.items p.fixtures.items p.checks.items };
+    ghost invariant = { λ p. IsProject p.regions.items p.threshold p.files.items p.fixtures.items p.checks.items };
 }
 
 impl Project {
     /// A project of these parts.
     pub fn new(
         room: RoomSpec,
+        regions: Vec<Region>,
         threshold: u64,
         files: Vec<Name>,
         fixtures: Vec<FixtureSpec>,
         checks: Vec<CheckSpec>,
     ) -> Project
-        requires { IsProject threshold files.items fixtures.items checks.items }
-        ensures { result ≡ record { room = room; threshold = threshold; files = files.items; fixtures = fixtures.items; checks = checks.items } }
+        requires { IsProject regions.items threshold files.items fixtures.items checks.items }
+        ensures { result ≡ record { room = room; regions = regions.items; threshold = threshold; files = files.items; fixtures = fixtures.items; checks = checks.items } }
     {
         Project {
             room,
+            regions,
             threshold,
             files,
             fixtures,
@@ -56,6 +60,14 @@ impl Project {
         ensures { result ≡ self.now.room }
     {
         self.room
+    }
+
+    /// The regions of its surfaces, in their order.
+    pub fn regions(&self) -> &[Region]
+        ensures value { result.now ≡ self.now.regions }
+        ensures few { length result.now ≤ 16 }
+    {
+        self.regions.as_slice()
     }
 
     /// The residual flux in nanolumens at which the solver stops.

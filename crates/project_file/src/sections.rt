@@ -13,12 +13,13 @@ ghost use Rattle.project_file.specs.declared.faults.ProjFault.TheVariants as fau
 ghost use Rattle.project_file.specs.Names.{numbered, prefix, fitting_front, or_quotation_marks, fault_name};
 ghost use Rattle.project_file.specs.FieldDuties.{member_keys, first_key, keys_duty, field_duty};
 ghost use Rattle.project_file.specs.Tables.{fields_of};
-ghost use Rattle.project_file.specs.Projects.{listed_table};
+ghost use Rattle.project_file.specs.Projects.{listed_table, number_at, four_numbers};
 ghost use Rattle.project_file.specs.Shapes.{are_names};
 ghost use Rattle.project_file.specs.Fields.{toml_items, required_field, optional_field, number as numbers, text as texts, table as tables, list, is_number_within, is_text_within, is_label_byte, is_label, is_label_text, has_exactly, has_at_most, is_any_value, toml_number, toml_text, toml_table, toml_list, is_kind};
 
 use crate::ProjFault;
 use crate::tables::TableAt;
+use crate::values::{all_numbers, all_tables, four_of, is_label, three_of, two_of};
 use lux_io::{Name, NameFault};
 use std::alloc::{AllocError, Global};
 use toml::{Table, Value};
@@ -29,6 +30,14 @@ pub struct Section<'a> {
     pub alloc: Global,
     pub table_at: TableAt,
     pub table: &'a Table,
+}
+
+/// The value at a key of a table.
+pub fn value_at<'a>(table: &'a Table, key: &str) -> Option<&'a Value>
+    ensures none { IfNone result (get_member key.now (table_view table.now) ≡ None) }
+    ensures some { IfSome result (λ value. get_member key.now (table_view table.now) ≡ Some (view value.now)) }
+{
+    table.get(key)
 }
 
 /// The table at a place of a list of tables.
@@ -85,24 +94,17 @@ fn or_quotation_marks(text: &str) -> &str
 }
 
 impl<'a> Section<'a> {
-    // The value at a key.
-    fn get(&self, key: &str) -> Option<&'a Value>
-        ensures none { IfNone result (get_member key.now (table_view self.now.table.now) ≡ None) }
-        ensures some { IfSome result (λ value. get_member key.now (table_view self.now.table.now) ≡ Some (view value.now)) }
-    {
-        self.table.get(key)
-    }
-
     // The path to a field.
     fn path(&self, key: &str) -> Result<String, AllocError>
         ensures { IfOk result (λ path. string_bytes path ≡ prefix self.now.table_at ++ key.now) }
     {
         match self.table_at {
-            TableAt::Top => String::from_str(self.alloc, key),
-            TableAt::Room => format!(in self.alloc; "room.{key}"),
+            TableAt::Top(_) => String::from_str(self.alloc, key),
+            TableAt::Room(_) => format!(in self.alloc; "room.{key}"),
             TableAt::Solver => format!(in self.alloc; "solver.{key}"),
             TableAt::Luminaire(number) => numbered_path(self.alloc, "luminaire", number, key),
             TableAt::Check(number) => numbered_path(self.alloc, "check", number, key),
+            TableAt::Region(number) => numbered_path(self.alloc, "region", number, key),
         }
     }
 
@@ -114,16 +116,6 @@ impl<'a> Section<'a> {
     {
         let path = self.path(key)?;
         Ok(name_of(self.alloc, path.as_str())?)
-    }
-
-    /// Whether the version stands in the table, and is 1.
-    pub fn is_version_one(&self) -> bool
-        ensures { result ≡ option_map_or (is_number_within 1 1) (get_member (codes "version") (table_view self.now.table.now)) false }
-    {
-        match self.get("version") {
-            Some(value) => value.as_integer() == Some(1),
-            None => false,
-        }
     }
 
     /// That each key of the table is one of its fields.
@@ -195,7 +187,7 @@ impl<'a> Section<'a> {
         ensures least { IfOk result (λ n. least ≤ n) }
         ensures greatest { IfOk result (λ n. n ≤ greatest) }
     {
-        let Some(value) = self.get(key) else {
+        let Some(value) = value_at(self.table, key) else {
             return Err(self.missing_fault(key));
         };
         let Some(number) = value.as_integer() else {
@@ -232,7 +224,7 @@ impl<'a> Section<'a> {
         ensures value { IfOk result (λ text. text.now ≡ toml_text (get_member key.now (table_view self.now.table.now))) }
         ensures named { IfOk result (λ text. IsName text.now) }
     {
-        let Some(value) = self.get(key) else {
+        let Some(value) = value_at(self.table, key) else {
             return Err(self.missing_fault(key));
         };
         let Some(text) = value.as_str() else {
@@ -251,7 +243,7 @@ impl<'a> Section<'a> {
         ensures value { IfOk result (λ text. text.now ≡ toml_text (get_member key.now (table_view self.now.table.now))) }
         ensures label { IfOk result (λ text. is_label text.now ≡ true) }
     {
-        let Some(value) = self.get(key) else {
+        let Some(value) = value_at(self.table, key) else {
             return Err(self.missing_fault(key));
         };
         let Some(text) = value.as_str() else {
@@ -269,7 +261,7 @@ impl<'a> Section<'a> {
         ensures answer { Answers fault.Memory (field_duty self.now.table_at (table_view self.now.table.now) (required_field key.now tables is_any_value)) result }
         ensures value { IfOk result (λ t. table_view t.now ≡ toml_table (get_member key.now (table_view self.now.table.now))) }
     {
-        let Some(value) = self.get(key) else {
+        let Some(value) = value_at(self.table, key) else {
             return Err(self.missing_fault(key));
         };
         match value.as_table() {
@@ -282,10 +274,10 @@ impl<'a> Section<'a> {
     #[tactic(auto, using(crate::proofs::Lists::lists), unfolding(crate::specs::FieldDuties::field_duty, duties::specs::Duties::unless, duties::specs::Duties::first))]
     pub fn two(&self, key: &str) -> Result<(u32, u32), ProjFault>
         ensures answer { Answers fault.Memory (field_duty self.now.table_at (table_view self.now.table.now) (required_field key.now (list numbers) (has_exactly 2 (is_number_within 0 (2 ^ 32 - 1))))) result }
-        ensures first { IfOk result (λ n. n.0 ≡ toml_number (slice_get (toml_list (get_member key.now (table_view self.now.table.now))) 0)) }
-        ensures second { IfOk result (λ n. n.1 ≡ toml_number (slice_get (toml_list (get_member key.now (table_view self.now.table.now))) 1)) }
+        ensures first { IfOk result (λ n. n.0 ≡ number_at (get_member key.now (table_view self.now.table.now)) 0) }
+        ensures second { IfOk result (λ n. n.1 ≡ number_at (get_member key.now (table_view self.now.table.now)) 1) }
     {
-        let Some(value) = self.get(key) else {
+        let Some(value) = value_at(self.table, key) else {
             return Err(self.missing_fault(key));
         };
         let Some(pair) = value.as_array() else {
@@ -304,11 +296,11 @@ impl<'a> Section<'a> {
     #[tactic(auto, using(crate::proofs::Lists::lists), unfolding(crate::specs::FieldDuties::field_duty, duties::specs::Duties::unless, duties::specs::Duties::first))]
     pub fn three(&self, key: &str) -> Result<(u32, u32, u32), ProjFault>
         ensures answer { Answers fault.Memory (field_duty self.now.table_at (table_view self.now.table.now) (required_field key.now (list numbers) (has_exactly 3 (is_number_within 0 (2 ^ 32 - 1))))) result }
-        ensures first { IfOk result (λ n. n.0 ≡ toml_number (slice_get (toml_list (get_member key.now (table_view self.now.table.now))) 0)) }
-        ensures second { IfOk result (λ n. n.1 ≡ toml_number (slice_get (toml_list (get_member key.now (table_view self.now.table.now))) 1)) }
-        ensures third { IfOk result (λ n. n.2 ≡ toml_number (slice_get (toml_list (get_member key.now (table_view self.now.table.now))) 2)) }
+        ensures first { IfOk result (λ n. n.0 ≡ number_at (get_member key.now (table_view self.now.table.now)) 0) }
+        ensures second { IfOk result (λ n. n.1 ≡ number_at (get_member key.now (table_view self.now.table.now)) 1) }
+        ensures third { IfOk result (λ n. n.2 ≡ number_at (get_member key.now (table_view self.now.table.now)) 2) }
     {
-        let Some(value) = self.get(key) else {
+        let Some(value) = value_at(self.table, key) else {
             return Err(self.missing_fault(key));
         };
         let Some(items) = value.as_array() else {
@@ -323,6 +315,27 @@ impl<'a> Section<'a> {
         }
     }
 
+    /// The four numbers of a field, each in 32 bits.
+    #[tactic(auto, using(crate::proofs::Lists::lists), unfolding(crate::specs::FieldDuties::field_duty, duties::specs::Duties::unless, duties::specs::Duties::first))]
+    pub fn four(&self, key: &str) -> Result<[u32; 4], ProjFault>
+        ensures answer { Answers fault.Memory (field_duty self.now.table_at (table_view self.now.table.now) (required_field key.now (list numbers) (has_exactly 4 (is_number_within 0 (2 ^ 32 - 1))))) result }
+        ensures value { IfOk result (λ n. n ≡ four_numbers (toml_list (get_member key.now (table_view self.now.table.now)))) }
+    {
+        let Some(value) = value_at(self.table, key) else {
+            return Err(self.missing_fault(key));
+        };
+        let Some(items) = value.as_array() else {
+            return Err(self.kind_fault(key));
+        };
+        if !all_numbers(items) {
+            return Err(self.kind_fault(key));
+        }
+        match four_of(items) {
+            Some(four) => Ok(four),
+            None => Err(self.range_fault(key)),
+        }
+    }
+
     /// The tables of a field, at most so many, and none where it is absent.
     #[tactic(auto, using(crate::proofs::Lists::lists), unfolding(crate::specs::FieldDuties::field_duty, duties::specs::Duties::unless, duties::specs::Duties::first))]
     pub fn tables(&self, key: &str, most: usize) -> Result<&'a [Value], ProjFault>
@@ -331,7 +344,7 @@ impl<'a> Section<'a> {
         ensures few { IfOk result (λ items. length items.now ≤ most) }
         ensures tables { IfOk result (λ items. list_all (is_kind tables) (toml_items (items_view items.now)) ≡ true) }
     {
-        let Some(value) = self.get(key) else {
+        let Some(value) = value_at(self.table, key) else {
             return Ok(&[]);
         };
         let Some(items) = value.as_array() else {
@@ -344,83 +357,5 @@ impl<'a> Section<'a> {
             return Err(self.range_fault(key));
         }
         Ok(items)
-    }
-}
-
-// Whether a text can name a check.
-#[tactic(auto, using(std::proofs::lemmas::Bool::Decides::nat_tests))]
-fn is_label(text: &str) -> bool
-    ensures { result ≡ is_label text.now }
-{
-    1 <= text.len() && text.len() <= 32 && are_label_bytes(text.as_bytes())
-}
-
-fn are_label_bytes(bytes: &[u8]) -> bool
-    ensures { result ≡ list_all is_label_byte bytes.now }
-{
-    bytes.iter().all(|byte| is_label_byte(*byte))
-}
-
-fn is_label_byte(byte: u8) -> bool
-    ensures { result ≡ is_label_byte byte }
-{
-    byte.is_ascii_alphanumeric() || byte == b'-' || byte == b'_'
-}
-
-// Whether each value is a number.
-fn all_numbers(items: &[Value]) -> bool
-    ensures { result ≡ list_all (λ item. is_some (as_integer (view item))) items.now }
-{
-    items.iter().all(|item| item.is_integer())
-}
-
-// Whether each value is a table.
-fn all_tables(items: &[Value]) -> bool
-    ensures { result ≡ list_all (λ item. is_some (as_table (view item))) items.now }
-{
-    items.iter().all(|item| item.is_table())
-}
-
-// The two numbers of a list, where it has two, each of 32 bits.
-#[tactic(auto, using(crate::proofs::Lists::lists, std::proofs::lemmas::Bool::Decides::nat_tests))]
-fn two_of(items: &[Value]) -> Option<(u32, u32)>
-    ensures none { IfNone result (((length (toml_items (items_view items.now)) == 2) && list_all (is_number_within 0 (2 ^ 32 - 1)) (toml_items (items_view items.now))) ≡ false) }
-    ensures some { IfSome result (λ _. ((length (toml_items (items_view items.now)) == 2) && list_all (is_number_within 0 (2 ^ 32 - 1)) (toml_items (items_view items.now))) ≡ true) }
-    ensures first { IfSome result (λ n. n.0 ≡ toml_number (slice_get (toml_items (items_view items.now)) 0)) }
-    ensures second { IfSome result (λ n. n.1 ≡ toml_number (slice_get (toml_items (items_view items.now)) 1)) }
-{
-    if items.len() != 2 {
-        return None;
-    }
-    let first = small_of(&items[0])?;
-    let second = small_of(&items[1])?;
-    Some((first, second))
-}
-
-// The three numbers of a list, where it has three, each of 32 bits.
-#[tactic(auto, using(crate::proofs::Lists::lists, std::proofs::lemmas::Bool::Decides::nat_tests))]
-fn three_of(items: &[Value]) -> Option<(u32, u32, u32)>
-    ensures none { IfNone result (((length (toml_items (items_view items.now)) == 3) && list_all (is_number_within 0 (2 ^ 32 - 1)) (toml_items (items_view items.now))) ≡ false) }
-    ensures some { IfSome result (λ _. ((length (toml_items (items_view items.now)) == 3) && list_all (is_number_within 0 (2 ^ 32 - 1)) (toml_items (items_view items.now))) ≡ true) }
-    ensures first { IfSome result (λ n. n.0 ≡ toml_number (slice_get (toml_items (items_view items.now)) 0)) }
-    ensures second { IfSome result (λ n. n.1 ≡ toml_number (slice_get (toml_items (items_view items.now)) 1)) }
-    ensures third { IfSome result (λ n. n.2 ≡ toml_number (slice_get (toml_items (items_view items.now)) 2)) }
-{
-    if items.len() != 3 {
-        return None;
-    }
-    let first = small_of(&items[0])?;
-    let second = small_of(&items[1])?;
-    let third = small_of(&items[2])?;
-    Some((first, second, third))
-}
-
-// The number of a value, where it has 32 bits.
-fn small_of(value: &Value) -> Option<u32>
-    ensures { result ≡ (if is_number_within 0 (2 ^ 32 - 1) (view value.now) then Some (toml_number (Some (view value.now))) else None) }
-{
-    match u32::try_from(value.as_integer()?) {
-        Ok(number) => Some(number),
-        Err(_) => None,
     }
 }

@@ -4,9 +4,9 @@ use Rattle.duties.proofs.Orders.{each_hands_on, each_more, each_none}
 use Rattle.toml.specs.View.{items_view, table_view}
 use Rattle.project_file.specs.declared.faults.ProjFault.TheVariants.{Memory}
 use Rattle.project_file.specs.Fields.{toml_items}
-use Rattle.project_file.specs.Projects.{listed_table, check_duty, IsCheck}
+use Rattle.project_file.specs.Projects.{listed_table, check_duty, check_spec, IsCheck}
 use Rattle.project_file.proofs.Lists.{length_listed}
-use Rattle.project_file.proofs.ListedChecks.{checks_more, how_many, all_checks_are}
+use Rattle.project_file.proofs.ListedTables.{one_more, how_many, all_said}
 use Rattle.project_file.proofs.checks.read_checks.Goals as goal
 
 pub loop-number-init : goal.loop-number-init
@@ -29,7 +29,7 @@ loop-number-preserved c =
     let table : table_view c.listed_table-table.result.now ≡ listed_table items i = c.listed_table-table.ensures in
     let here = c.in_ok-read_check.ensures in
     record {
-      checks = c.in_ok-push.ensures.items ∙ ((λ j. before.checks j ++ (rw table at here.value) j ∷ []) ∙ sym (checks_more items i));
+      checks = c.in_ok-push.ensures.items ∙ ((λ j. before.checks j ++ (rw table at here.value) j ∷ []) ∙ sym (one_more check_spec items i));
       met = each_more (check_duty items) i before.met ∙ (rw table at here.answer);
       valid = rw c.in_ok-push.ensures.items (All-push IsCheck _ _ before.valid here.valid);
     }
@@ -42,9 +42,9 @@ returns-clause-answer c =
 pub returns-clause-value : goal.returns-clause-value
 returns-clause-value c =
     let all : c.loop-number.number ≡ length (toml_items (items_view c.args.items.now)) = omega (arith, length_listed c.args.items.now) in
-    (rw all at c.loop-number.invariant.checks) ∙ all_checks_are (toml_items (items_view c.args.items.now))
+    (rw all at c.loop-number.invariant.checks) ∙ all_said check_spec (toml_items (items_view c.args.items.now))
 
 pub returns-clause-many : goal.returns-clause-many
 returns-clause-many c =
     let all : c.loop-number.number ≡ length c.args.items.now = omega arith in
-    ap length c.loop-number.invariant.checks ∙ (how_many (toml_items (items_view c.args.items.now)) c.loop-number.number ∙ all)
+    ap length c.loop-number.invariant.checks ∙ (how_many check_spec (toml_items (items_view c.args.items.now)) c.loop-number.number ∙ all)

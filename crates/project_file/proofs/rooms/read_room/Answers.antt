@@ -2,7 +2,7 @@ use Rattle.duties.proofs.Orders.{hands_on, this_fails}
 use Rattle.project_file.proofs.Steps.{then_answers}
 use Rattle.project_file.specs.declared.faults.ProjFault.TheVariants.{Memory}
 use Rattle.project_file.specs.FieldDuties.{table_duty}
-use Rattle.project_file.proofs.reader.read_room.Goals as goal
+use Rattle.project_file.proofs.rooms.read_room.Goals as goal
 
 pub returns-in_err-check_keys-clause-answer : goal.returns-in_err-check_keys-clause-answer
 unfolding table_duty

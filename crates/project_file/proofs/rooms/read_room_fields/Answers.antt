@@ -2,7 +2,7 @@ use Rattle.std.proofs.Common.{◌∙◌}
 use Rattle.duties.proofs.Orders.{hands_on, this_met, this_fails}
 use Rattle.project_file.specs.declared.faults.ProjFault.TheVariants.{Memory}
 use Rattle.project_file.specs.FieldDuties.{fields_duty}
-use Rattle.project_file.proofs.reader.read_room_fields.Goals as goal
+use Rattle.project_file.proofs.rooms.read_room_fields.Goals as goal
 
 pub returns-in_err-width-clause-answer : goal.returns-in_err-width-clause-answer
 unfolding fields_duty
