@@ -9,7 +9,7 @@ draws_of_0 = refl
 pub layout_of_0 :
     generated_layout 0
     ≡ record {
-      room = record { width = 4000; depth = 6000; height = 3250; nx = 8; ny = 12; nz = 6; floor = 200; ceiling = 750; walls = 500 };
+      room = record { width = 4000; depth = 6000; height = 3250; nx = 8; ny = 12; nz = 6; floor = 200; ceiling = 750; walls = 500 ∷ 500 ∷ 500 ∷ 500 ∷ [] };
       columns = 2;
       rows = 2;
     }

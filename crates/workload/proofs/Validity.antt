@@ -1,5 +1,5 @@
 -- Generated rooms are valid, and valid rooms pass all tests.
-use Rattle.std.proofs.Common.{◌≡◌, ℕ, ◌≤◌, true, List, [], ◌∷◌, None, length, refl, ◌∙◌, arith}
+use Rattle.std.proofs.Common.{◌≡◌, ℕ, ◌+◌, ◌*◌, ◌%◌, ◌≤◌, true, List, [], ◌∷◌, None, length, refl, ◌∙◌, arith}
 use Rattle.std.specs.Prelude.{All, nat_le}
 use Rattle.std.specs.List.{list_all}
 use Rattle.std.proofs.lemmas.List.Elements.{All-nil, All-cons, All-head, All-tail}
@@ -12,7 +12,7 @@ use Rattle.room_patches.specs.Patches.{patches}
 use Rattle.room_patches.specs.Rooms.{plain_room}
 use Rattle.room_patches.specs.Validity.{IsRoom, spec_duties, region_duty, room_duties}
 use Rattle.room_patches.proofs.Counts.{length-patches}
-use Rattle.workload.specs.Generator.{generated_room}
+use Rattle.workload.specs.Generator.{draw, generated_room}
 
 pub few_patches : (room : RoomSpec) → room.nx ≤ 16 → room.ny ≤ 12 → room.nz ≤ 7 → length (patches (plain_room room)) ≤ 776
 few_patches room nx ny nz =
@@ -24,7 +24,7 @@ few_patches room nx ny nz =
 four_low : (wall : ℕ) → wall ≤ 950 → All (λ w. w ≤ 950) (wall ∷ wall ∷ wall ∷ wall ∷ [])
 four_low wall low =
     let P : ℕ → Type 0 = λ w. w ≤ 950 in
-    All-cons P wall _ low (All-cons P wall _ low (All-cons P wall _ low (All-cons P wall _ low (All-nil P))))
+    All-cons P wall (wall ∷ wall ∷ wall ∷ []) low (All-cons P wall (wall ∷ wall ∷ []) low (All-cons P wall (wall ∷ []) low (All-cons P wall [] low (All-nil P))))
 
 pub generated_valid : (number : ℕ) → IsRoom (generated_room number)
 unfolding generated_room
@@ -35,7 +35,7 @@ generated_valid number = record {
   few = let few = few_patches (generated_room number) (omega arith) (omega arith) (omega arith) in omega arith;
   floor = omega arith;
   ceiling = omega arith;
-  walls = four_low _ (omega arith);
+  walls = four_low (400 + 50 * (draw number 6 % 5)) (omega arith);
 }
 
 walls_pass : (walls : List ℕ) → All (λ w. w ≤ 950) walls → list_all (λ wall. nat_le wall 950) walls ≡ true
