@@ -9,6 +9,7 @@
 mod checks;
 mod faults;
 mod luminaires;
+mod migration_law;
 mod project;
 mod reader;
 mod regions;
@@ -19,5 +20,6 @@ mod values;
 mod versions;
 
 pub use faults::ProjFault;
+pub use migration_law::migration_keeps_the_project;
 pub use project::Project;
 pub use reader::read_project;
