@@ -1,18 +1,18 @@
 -- A file of version 1 beside the file of version 2 that stands for it.
-use Rattle.std.proofs.Common.{◌≡◌, ◌&&◌, ℕ, Bool, true, false, not, List, [], ◌∷◌, codes, filter, Option, Some, None, Ok, option_map, option_and_then, is_some, pos, refl, ap, ◌∙◌, sym}
+use Rattle.std.proofs.Common.{◌≡◌, ℕ, Bool, true, false, not, List, [], ◌∷◌, codes, Option, Some, None, Ok, option_map, option_and_then, is_some, pos, refl, ap, ◌∙◌, sym}
 use Rattle.std.specs.List.{list_any}
 use Rattle.std.specs.Str.{bytes_eq}
-use Rattle.duties.specs.Duties.{unless, first, judged}
+use Rattle.duties.specs.Duties.{unless, first}
 use Rattle.duties.proofs.Orders.{all_met, unless_met, unless_holds, this_met, last_decides, each_none, judged_is, judged_ok}
 use Rattle.toml.specs.Data.{Data, string, integer, float, boolean, datetime, array, table, Members, get_member, as_integer}
 use Rattle.project_file.specs.declared.tables.TableAt.{TableAt}
 use Rattle.project_file.specs.declared.tables.TableAt.TheVariants as table_at
 use Rattle.project_file.specs.declared.versions.Version.TheVariants.{One, Two}
 use Rattle.project_file.specs.Versions.{version_numbered, version_in}
-use Rattle.project_file.specs.Fields.{Field, field, optional_field, table as tables, list, is_kind, is_any_value, has_at_most, toml_number, toml_table, toml_list}
-use Rattle.project_file.specs.Tables.{top_fields, room_fields, walls_field, is_small, fields_of}
-use Rattle.project_file.specs.FieldDuties.{field_duty, field_value_duty, fields_duty, keys_duty, table_duty, member_keys, first_key}
-use Rattle.project_file.specs.Projects.{project_of_tree, project_duties, project_in, room_in, room_of, walls_of, four_numbers}
+use Rattle.project_file.specs.Fields.{Field, field, optional_field, table as tables, list, is_any_value, has_at_most, toml_number, toml_table, toml_list}
+use Rattle.project_file.specs.Tables.{top_fields, walls_field, is_small, fields_of}
+use Rattle.project_file.specs.FieldDuties.{field_duty, field_value_duty, fields_duty, keys_duty, table_duty, member_keys}
+use Rattle.project_file.specs.Projects.{project_duties, project_in, room_in, room_of, four_numbers}
 use Rattle.project_file.specs.Migration.{with_value, four_times, migrated_room, migrated, MigrationKeepsTheProject}
 use Rattle.project_file.proofs.KnownVersions.{version_met}
 use Rattle.project_file.proofs.Files.{any_front}

@@ -1,5 +1,5 @@
 -- Which file of version 2 stands for a file of version 1. The format is this project's own.
-use Rattle.std.specs.Prelude.{◌≡◌, ℕ, pos, if◌then◌else◌, List, codes, Option, Some, Ok}
+use Rattle.std.specs.Prelude.{◌≡◌, ℕ, pos, if◌then◌else◌, List, codes, Some, Ok}
 use Rattle.std.specs.Str.{bytes_eq}
 use Rattle.toml.specs.Data.{Data, integer, array, table, no_items, item, Members, no_members, member}
 use Rattle.project_file.specs.declared.versions.Version.TheVariants.{One}
