@@ -5,7 +5,7 @@ use Rattle.std.specs.List.{sum_by}
 use Rattle.duties.specs.Duties.{Duty, unless}
 use Rattle.lux_num.specs.Quotients.{root}
 use Rattle.photo_web.specs.Web.{PhotometricWeb}
-use Rattle.room_patches.specs.declared.spec.RoomSpec.{RoomSpec}
+use Rattle.room_patches.specs.Rooms.{Room}
 use Rattle.room_patches.specs.declared.patch.Patch.{Patch}
 use Rattle.room_patches.specs.Places.{squared_distance}
 use Rattle.room_patches.specs.Patches.{patches, in_front}
@@ -36,7 +36,7 @@ unfoldable pub flux_on : List PhotometricWeb → List Fixture → Patch → ℕ
 flux_on webs fixtures patch = sum_by (λ fixture. flux_from (slice_index_or webs fixture.web dark_web) fixture patch) fixtures
 
 -- the direct flux of each patch of a room
-abbrev pub direct_flux : RoomSpec → List Fixture → List PhotometricWeb → List ℕ
+abbrev pub direct_flux : Room → List Fixture → List PhotometricWeb → List ℕ
 direct_flux room fixtures webs = map (flux_on webs fixtures) (patches room)
 
 -- the direct flux over all patches is at most 10^16 nanolumens

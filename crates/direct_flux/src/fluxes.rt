@@ -55,7 +55,7 @@ fn all_flux(
     requires webs { All (λ fixture. fixture.web < length webs.now) fixtures.now }
     requires few { length fixtures.now ≤ MOST_LUMINAIRES }
     ensures flux { IfOk result (λ flux. flux.items ≡ direct_flux room.now fixtures.now webs.now) }
-    ensures few { IfOk result (λ flux. length flux.items ≤ 1024) }
+    ensures few { IfOk result (λ flux. length flux.items ≤ 4096) }
     ensures limited { IfOk result (λ flux. All (λ amount. amount ≤ 256 * (4 * 10 ^ 28)) flux.items) }
 {
     let mut flux = Vec::with_capacity(alloc, room.len())?;
@@ -67,7 +67,7 @@ fn all_flux(
 
 // All amounts together.
 fn total(amounts: &[u128]) -> u128
-    requires few { length amounts.now ≤ 1024 }
+    requires few { length amounts.now ≤ 4096 }
     requires limited { All (λ amount. amount ≤ 256 * (4 * 10 ^ 28)) amounts.now }
     ensures { result ≡ sum amounts.now }
 {

@@ -29,7 +29,7 @@ pub record SeatLayout (hand : Holdings) (own_taken : List ℕ) (own_wins : ℕ) 
   pub shape : IsOfSystem v.system v.direct v
   pub bounds : IsBounded v
 
--- the numbers of the desk are those of its account, and with the seats that are out it has 17 parts at most
+-- the numbers of the desk are those of its account, and with the seats that are out it has 65 parts at most
 pub record DeskLayout (own_taken own_err : List ℕ) (own_parts own_wins own_out : ℕ) (v : View) : Type 0 where
   pub taken : own_taken ≡ v.taken
   pub err : own_err ≡ v.err
@@ -38,7 +38,7 @@ pub record DeskLayout (own_taken own_err : List ℕ) (own_parts own_wins own_out
   pub out : own_out ≡ v.out
   pub desk : v.role ≡ Desk
   pub shape : IsOfSystem v.system v.direct v
-  pub room : v.parts + v.out ≤ 17
+  pub room : v.parts + v.out ≤ 65
   pub taken_bound : (i : ℕ) → i < patches v.system → taken_at i v ≤ 2 * 10 ^ 17 * v.parts
   pub err_bound : (j : ℕ) → j < patches v.system → err_at j v ≤ scale * v.parts
   pub wins_bound : v.wins ≤ 2 * 10 ^ 17 * v.parts

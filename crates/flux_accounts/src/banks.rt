@@ -115,7 +115,7 @@ impl Bank {
     // Hires a seat, over a hand and a list with nothing in them.
     fn hire(&self, desk: &mut Desk, number: u32, hand: Hand, taken: Amounts) -> Seat
         requires desk { IsDeskOf self.now desk.old }
-        requires room { desk.old.history.account.parts + desk.old.history.account.out < 17 }
+        requires room { desk.old.history.account.parts + desk.old.history.account.out < 65 }
         requires hand { (hand.amounts ≡ nothing self.now.system) × (hand.fractions ≡ nothing self.now.system) }
         requires taken { taken ≡ nothing self.now.system }
         ensures desk { desk.new ≡ record desk.old { history = after_hiring desk.old.history } }

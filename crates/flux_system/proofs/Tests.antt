@@ -17,7 +17,7 @@ has_size s = leb 1 (patches s) && leb (patches s) MOST_PATCHES && eqb (length s.
 abbrev has_threshold : FluxSystem → Bool
 has_threshold s = leb 1 s.threshold && leb s.threshold (10 ^ 16)
 
-pub size_met : (s : FluxSystem) → 1 ≤ patches s → patches s ≤ 1024 → length s.shares ≡ patches s * patches s → has_size s ≡ true
+pub size_met : (s : FluxSystem) → 1 ≤ patches s → patches s ≤ 4096 → length s.shares ≡ patches s * patches s → has_size s ≡ true
 size_met s some few square = and_from _ _ (and_from _ _ (le-leb _ _ some) (le-leb _ _ few)) (eq-eqb _ _ square)
 
 pub threshold_met : (s : FluxSystem) → 1 ≤ s.threshold → s.threshold ≤ 10000000000000000 → has_threshold s ≡ true
@@ -26,7 +26,7 @@ threshold_met s positive limited = and_from _ _ (le-leb _ _ positive) (le-leb _ 
 pub too_few : (s : FluxSystem) → patches s < 1 → has_size s ≡ false
 too_few s h = and_left _ _ (and_left _ _ (lt-leb _ _ h))
 
-pub too_many : (s : FluxSystem) → 1024 < patches s → has_size s ≡ false
+pub too_many : (s : FluxSystem) → 4096 < patches s → has_size s ≡ false
 too_many s h = and_left _ _ (and_right _ _ (lt-leb _ _ h))
 
 pub no_square : (s : FluxSystem) → (length s.shares ≡ patches s * patches s → ⊥) → has_size s ≡ false

@@ -17,7 +17,7 @@ pub use faults::{LimitFault, SystemFault};
 pub use system::System;
 
 /// The most patches that a system has.
-pub const MOST_PATCHES: usize = 1_024;
+pub const MOST_PATCHES: usize = 4_096;
 
 /// The most seats that shooters of one system take.
-pub const MOST_SEATS: u32 = 16;
+pub const MOST_SEATS: u32 = 64;

@@ -5,6 +5,7 @@ use Rattle.std.specs.Int.{div_ceil}
 use Rattle.std.proofs.lemmas.Grind.{div_ceil_times}
 use Rattle.std.proofs.lemmas.Nat.{mul-le}
 use Rattle.room_patches.specs.declared.patch.Patch.{Patch}
+use Rattle.room_patches.specs.Rooms.{Room}
 use Rattle.room_patches.specs.Patches.{patches}
 use Rattle.grids.specs.declared.spec.GridSpec.{GridSpec}
 use Rattle.grids.specs.Grids.{point_at}
@@ -37,9 +38,9 @@ above k direct high num den some h = reached (div_ceil high k) (div_ceil_times h
     reached : (q : ℕ) → high ≤ q * k → k * den * direct + num ≤ (direct + q) * (k * den)
     reached q enough = let up = mul-le high den (q * k) den enough (omega arith) in omega arith
 
-between : (grid : GridSpec) (direct : List ℕ) (bounds : List (ℕ × ℕ)) (g : ℕ) → EnclosesLight grid direct bounds g (light_between grid direct bounds g)
-between grid direct bounds g num den some each =
-    let all : List Patch = patches grid.room in
+between : (room : Room) (grid : GridSpec) (direct : List ℕ) (bounds : List (ℕ × ℕ)) (g : ℕ) → EnclosesLight room grid direct bounds g (light_between room grid direct bounds g)
+between room grid direct bounds g num den some each =
+    let all : List Patch = patches room in
     let point : List ℤ = point_at grid g in
     let lower = light-le all point (low_end bounds) num den 1 (λ i inside. let here = (each i inside).0 in omega arith) in
     let upper = light-le all point num (high_end bounds) 1 den (λ i inside. let here = (each i inside).1 in omega arith) in (
@@ -48,10 +49,10 @@ between grid direct bounds g num den some each =
     )
 
 -- the same for ends that were reached step by step
-pub encloses : (grid : GridSpec) (direct : List ℕ) (bounds : List (ℕ × ℕ)) (g : ℕ) (all : List Patch) (point : List ℤ) (low high top : ℕ) → all ≡ patches grid.room → point ≡ point_at grid g
+pub encloses : (room : Room) (grid : GridSpec) (direct : List ℕ) (bounds : List (ℕ × ℕ)) (g : ℕ) (all : List Patch) (point : List ℤ) (low high top : ℕ) → all ≡ patches room → point ≡ point_at grid g
     → low ≡ reflected_light all point (low_end bounds) → high ≡ reflected_light all point (high_end bounds) → top ≡ div_ceil high 1000000000000000
-    → EnclosesLight grid direct bounds g (get_or direct g 0 + low / 1000000000000000, get_or direct g 0 + top)
-encloses grid direct bounds g all point low high top all_is point_is low_is high_is top_is =
+    → EnclosesLight room grid direct bounds g (get_or direct g 0 + low / 1000000000000000, get_or direct g 0 + top)
+encloses room grid direct bounds g all point low high top all_is point_is low_is high_is top_is =
     let least = sym (low_is ∙ (λ k. reflected_light (all_is k) (point_is k) (low_end bounds))) in
     let most = sym (top_is ∙ ((λ k. div_ceil (high_is k) 1000000000000000) ∙ (λ k. div_ceil (reflected_light (all_is k) (point_is k) (high_end bounds)) 1000000000000000))) in
-    subst (EnclosesLight grid direct bounds g) (λ k. (get_or direct g 0 + least k / 1000000000000000, get_or direct g 0 + most k)) (between grid direct bounds g)
+    subst (EnclosesLight room grid direct bounds g) (λ k. (get_or direct g 0 + least k / 1000000000000000, get_or direct g 0 + most k)) (between room grid direct bounds g)

@@ -6,3 +6,4 @@ pub mod Illuminances
 pub mod Sums
 pub mod Tests
 pub mod Enclosing
+pub mod Regions

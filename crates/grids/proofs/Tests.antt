@@ -1,28 +1,16 @@
 -- What is known of a grid that passes its tests.
-use Rattle.std.proofs.Common.{◌≡◌, ℕ, Bool, true, false, cond, List, Some, None, refl, arith}
-use Rattle.std.specs.Prelude.{All}
-use Rattle.std.specs.List.{position, position_or_len}
-use Rattle.std.specs.Option.{option_map}
-use Rattle.std.proofs.lemmas.Bool.{leb-true, ltb-true, ltb-false, and_parts}
-use Rattle.std.proofs.lemmas.List.Sums.{fails_before_first}
+use Rattle.std.proofs.Common.{◌≡◌, None}
+use Rattle.std.proofs.lemmas.Bool.{leb-true, ltb-true, and_parts}
 use Rattle.duties.specs.Duties.{first}
 use Rattle.duties.proofs.Orders.{unless_met, all_met, each_met}
+use Rattle.room_patches.specs.Rooms.{plain_room}
 use Rattle.room_patches.specs.Patches.{patches}
 use Rattle.room_patches.specs.Validity.{IsRoom}
+use Rattle.room_patches.proofs.Regions.{none_found}
 use Rattle.grids.specs.declared.spec.GridSpec.{GridSpec}
 use Rattle.grids.specs.declared.faults.GridFault.TheVariants.{TooNear}
 use Rattle.grids.specs.Grids.{count, point_at}
 use Rattle.grids.specs.Validity.{is_too_near, point_duty, grid_duties, IsGrid}
-
--- where no place is found, no element passes
-none_found : {X F : Type 0} (p : X → Bool) (xs : List X) (f : ℕ → F) → option_map f (position p xs) ≡ None → All (λ x. p x ≡ false) xs
-none_found {X} {F} p xs f none = λ k d inside.
-    let past = ltb-false _ _ (by_test (position_or_len p xs) _ none) in
-    fails_before_first p xs k d (omega arith)
-  where
-    by_test : (n : ℕ) (b : Bool) → option_map f (cond b (Some n) None) ≡ None → b ≡ false
-    by_test n true h = absurd (cc)
-    by_test n false h = refl
 
 pub valid_where_met : (grid : GridSpec) → IsRoom grid.room → first (grid_duties grid) ≡ None → IsGrid grid
 unfolding grid_duties point_duty
@@ -52,5 +40,5 @@ valid_where_met grid room met =
         few_rows = leb-true _ _ rows.1;
         few = leb-true _ _ counts.1;
       };
-      apart = λ g inside. none_found (is_too_near (point_at grid g)) (patches grid.room) (TooNear g) (each_met (point_duty grid) (count grid) g c.0 inside);
+      apart = λ g inside. none_found (is_too_near (point_at grid g)) (patches (plain_room grid.room)) (TooNear g) (each_met (point_duty grid) (count grid) g c.0 inside);
     }

@@ -6,6 +6,7 @@ use Rattle.compliance.specs.Exact.{Fraction, IsBetween}
 use Rattle.photo_web.specs.Web.{PhotometricWeb}
 use Rattle.room_patches.specs.declared.patch.Patch.{Patch}
 use Rattle.room_patches.specs.Places.{squared_distance}
+use Rattle.room_patches.specs.Rooms.{Room}
 use Rattle.room_patches.specs.Patches.{patches, in_front}
 use Rattle.fixtures.specs.declared.fixture.Fixture.{Fixture}
 use Rattle.direct_flux.specs.DirectFlux.{flux_on}
@@ -43,8 +44,8 @@ coefficient patch point =
     else 0
 
 -- the coefficient of patch i at point g
-abbrev pub coefficient_of : GridSpec → ℕ → ℕ → ℕ
-coefficient_of grid i g = slice_index (map (λ patch. coefficient patch (point_at grid g)) (patches grid.room)) i
+abbrev pub coefficient_of : Room → GridSpec → ℕ → ℕ → ℕ
+coefficient_of room grid i g = slice_index (map (λ patch. coefficient patch (point_at grid g)) (patches room)) i
 
 -- What patches weigh at a point: what they reflect of the flux that reaches them (reflectances are per mille), times their
 -- coefficients. So it is in parts of 10^15 of a nanolux for each nanolumen.
@@ -64,23 +65,23 @@ high_end bounds i = (slice_index_or bounds i (0, 0)).1
 
 -- the interval of a point: the direct light and what is reflected at the low ends, cut, to what is reflected at the high
 -- ends, rounded up
-abbrev pub light_between : GridSpec → List ℕ → List (ℕ × ℕ) → ℕ → ℕ × ℕ
-light_between grid direct bounds g = (
-  slice_index direct g + reflected_light (patches grid.room) (point_at grid g) (low_end bounds) / 10 ^ 15,
-  slice_index direct g + div_ceil (reflected_light (patches grid.room) (point_at grid g) (high_end bounds)) (10 ^ 15),
+abbrev pub light_between : Room → GridSpec → List ℕ → List (ℕ × ℕ) → ℕ → ℕ × ℕ
+light_between room grid direct bounds g = (
+  slice_index direct g + reflected_light (patches room) (point_at grid g) (low_end bounds) / 10 ^ 15,
+  slice_index direct g + div_ceil (reflected_light (patches room) (point_at grid g) (high_end bounds)) (10 ^ 15),
 )
 
 -- the light at a point where patch i has num i / den nanolumens
-abbrev pub exact_light : GridSpec → List ℕ → ℕ → (ℕ → ℕ) → ℕ → Fraction
-exact_light grid direct g num den = record {
-  top = 10 ^ 15 * den * slice_index direct g + reflected_light (patches grid.room) (point_at grid g) num;
+abbrev pub exact_light : Room → GridSpec → List ℕ → ℕ → (ℕ → ℕ) → ℕ → Fraction
+exact_light room grid direct g num den = record {
+  top = 10 ^ 15 * den * slice_index direct g + reflected_light (patches room) (point_at grid g) num;
   bottom = 10 ^ 15 * den;
 }
 
 -- Two ends enclose the light at a point, whatever flux within its own interval each patch has. No such flux is negative, so
 -- that natural numbers over one denominator are all there are.
-abbrev pub EnclosesLight : GridSpec → List ℕ → List (ℕ × ℕ) → ℕ → ℕ × ℕ → Type 0
-EnclosesLight grid direct bounds g ends =
+abbrev pub EnclosesLight : Room → GridSpec → List ℕ → List (ℕ × ℕ) → ℕ → ℕ × ℕ → Type 0
+EnclosesLight room grid direct bounds g ends =
     (num : ℕ → ℕ) (den : ℕ) → 0 < den
-    → ((i : ℕ) → i < length (patches grid.room) → IsBetween (low_end bounds i, high_end bounds i) (record { top = num i; bottom = den }))
-    → IsBetween ends (exact_light grid direct g num den)
+    → ((i : ℕ) → i < length (patches room) → IsBetween (low_end bounds i, high_end bounds i) (record { top = num i; bottom = den }))
+    → IsBetween ends (exact_light room grid direct g num den)

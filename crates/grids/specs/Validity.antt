@@ -5,6 +5,7 @@ use Rattle.std.specs.Option.{option_map}
 use Rattle.duties.specs.Duties.{Duty, unless, each}
 use Rattle.room_patches.specs.declared.patch.Patch.{Patch}
 use Rattle.room_patches.specs.Places.{squared_distance}
+use Rattle.room_patches.specs.Rooms.{plain_room}
 use Rattle.room_patches.specs.Patches.{patches}
 use Rattle.room_patches.specs.Validity.{IsRoom}
 use Rattle.grids.specs.declared.spec.GridSpec.{GridSpec}
@@ -31,9 +32,9 @@ has_counts grid = is_count grid.px && is_count grid.py && nat_le (count grid) 10
 abbrev pub is_too_near : List ℤ → Patch → Bool
 is_too_near point patch = is_seen patch point && nat_lt (squared_distance patch.centre point) 40000
 
--- point g isn't too near to any patch; else the first patch is named
+-- point g isn't too near to any patch, whatever it reflects; else the first patch is named
 unfoldable pub point_duty : GridSpec → ℕ → Duty GridFault
-point_duty grid g = option_map (TooNear g) (position (is_too_near (point_at grid g)) (patches grid.room))
+point_duty grid g = option_map (TooNear g) (position (is_too_near (point_at grid g)) (patches (plain_room grid.room)))
 
 -- what makes a grid valid, as tests in their order, each with its refusal
 unfoldable pub grid_duties : GridSpec → List (Duty GridFault)
@@ -60,4 +61,4 @@ pub record IsLaid (grid : GridSpec) : Type 0 where
 -- and no point of it is too near to a patch
 pub record IsGrid (grid : GridSpec) : Type 0 where
   pub laid : IsLaid grid
-  pub apart : (g : ℕ) → g < count grid → All (λ patch. is_too_near (point_at grid g) patch ≡ false) (patches grid.room)
+  pub apart : (g : ℕ) → g < count grid → All (λ patch. is_too_near (point_at grid g) patch ≡ false) (patches (plain_room grid.room))

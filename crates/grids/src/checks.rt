@@ -12,7 +12,7 @@ use room_patches::Room;
 // Why there is no such grid, if there isn't.
 #[tactic(auto, using(duties::proofs::Orders::steps, duties::proofs::Orders::last_decides), unfolding(crate::specs::Validity::grid_duties))]
 pub(crate) fn grid_fault(grid: GridSpec, room: &Room) -> Option<GridFault>
-    requires room { grid.room ≡ room.now }
+    requires room { grid.room ≡ room.now.spec }
     requires valid { IsRoom grid.room }
     ensures { result ≡ first (grid_duties grid) }
 {
@@ -45,9 +45,9 @@ fn has_counts(grid: GridSpec) -> bool
 }
 
 // The first point that is too near to a patch, with the first such patch.
-#[tactic(auto, using(duties::proofs::Orders::each_none, duties::proofs::Orders::each_more, duties::proofs::Orders::each_fails), unfolding(crate::specs::Validity::point_duty))]
+#[tactic(auto, using(crate::proofs::Regions::first_near, duties::proofs::Orders::each_none, duties::proofs::Orders::each_more, duties::proofs::Orders::each_fails), unfolding(crate::specs::Validity::point_duty))]
 fn nearness_fault(grid: GridSpec, room: &Room) -> Option<GridFault>
-    requires room { grid.room ≡ room.now }
+    requires room { grid.room ≡ room.now.spec }
     requires laid { IsLaid grid }
     ensures { result ≡ each (count grid) (point_duty grid) }
 {

@@ -43,7 +43,7 @@ fn read_patch(source: &mut Lines, patch: usize) -> Result<PatchLine, LedgerFault
 /// The lists of a ledger of so many patches, a line for each.
 pub fn read_patches(alloc: Global, source: &mut Lines, count: usize) -> Result<Lists, LedgerFault>
     requires place { source.old.read ≡ 4 }
-    requires few { count ≤ 1024 }
+    requires few { count ≤ 4096 }
     ensures answer { Answers Memory (each count (patch_duty source.old.text)) result }
     ensures direct { IfOk result (λ lists. lists.direct.items ≡ patch_numbers source.old.text count 1) }
     ensures taken { IfOk result (λ lists. lists.taken.items ≡ patch_numbers source.old.text count 2) }
@@ -123,7 +123,7 @@ fn read_opened(
     count: usize,
 ) -> Result<Vec<(u64, u64)>, LedgerFault>
     requires some { 1 ≤ count }
-    requires few { count ≤ 1024 }
+    requires few { count ≤ 4096 }
     requires there { 4 + count < length (lines source.old.text) }
     requires text { opening.text.now ≡ line_text source.old.text (4 + count) }
     requires number { opening.number ≡ 5 + count }
@@ -153,7 +153,7 @@ pub fn read_intervals(
     count: usize,
 ) -> Result<Option<Vec<(u64, u64)>>, LedgerFault>
     requires some { 1 ≤ count }
-    requires few { count ≤ 1024 }
+    requires few { count ≤ 4096 }
     requires place { source.old.read ≡ 4 + count }
     ensures answer { Answers Memory (first (intervals_duty source.old.text count ∷ end_duty source.old.text count ∷ [])) result }
     ensures intervals { IfOk result (λ intervals. option_map (λ ends. ends.items) intervals ≡ intervals_in source.old.text count) }

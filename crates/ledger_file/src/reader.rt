@@ -60,7 +60,7 @@ fn read_head(source: &mut Lines) -> Result<Head, LedgerFault>
     ensures answer { Answers Memory (first (head_duties source.old.text)) result }
     ensures patches { IfOk result (λ head. head.patches ≡ patch_count source.old.text) }
     ensures some { IfOk result (λ head. 1 ≤ head.patches) }
-    ensures few { IfOk result (λ head. head.patches ≤ 1024) }
+    ensures few { IfOk result (λ head. head.patches ≤ 4096) }
     ensures wins { IfOk result (λ head. head.wins ≡ win_count source.old.text) }
     ensures parts { IfOk result (λ head. head.parts ≡ part_count source.old.text) }
     ensures same { OnOk result (source.new.text ≡ source.old.text) }

@@ -24,6 +24,8 @@ use Rattle.grids.specs.Validity.{grid_duties}
 use Rattle.photo_web.specs.Web.{PhotometricWeb}
 use Rattle.room_patches.specs.declared.patch.Patch.{Patch}
 use Rattle.room_patches.specs.declared.spec.RoomSpec.{RoomSpec}
+use Rattle.project_file.specs.Projects.{project_room}
+use Rattle.room_patches.specs.Rooms.{Room}
 use Rattle.room_patches.specs.Patches.{patches}
 use Rattle.room_patches.specs.Validity.{room_duties}
 use Rattle.transfer_shares.specs.Shares as shares
@@ -38,11 +40,11 @@ met f None h = refl
 met f (Some fault) h = absurd (cc)
 
 module _ (l : Lighting) where
-  pub room_refused : (f : LightFault) → option_map fault.Room (first (room_duties l.project.room)) ≡ Some f → lit_room_of l ≡ Err f
+  pub room_refused : (f : LightFault) → option_map fault.Room (first (room_duties (project_room l.project))) ≡ Some f → lit_room_of l ≡ Err f
   unfolding lighting_duties
   room_refused f is = judged_err (lighting_duties l) l f (this_fails _ _ f is)
 
-  module _ (valid : option_map fault.Room (first (room_duties l.project.room)) ≡ None) where
+  module _ (valid : option_map fault.Room (first (room_duties (project_room l.project))) ≡ None) where
     pub fixture_refused : (f : LightFault) → option_map fault.Fixture (placing_duty l.project.room l.project.fixtures) ≡ Some f → lit_room_of l ≡ Err f
     unfolding lighting_duties
     fixture_refused f is = judged_err (lighting_duties l) l f (this_met _ _ valid ∙ this_fails _ _ f is)
@@ -89,7 +91,7 @@ pub few_placed : (asked : List FixtureSpec) (fixtures : List Fixture) → fixtur
 few_placed asked fixtures is few = omega (arith, few, ap length is, length-map asked fixture_of)
 
 -- a direct flux for each patch
-pub a_flux_each : (room : RoomSpec) (threshold : ℕ) (fixtures : List Fixture) (webs : List PhotometricWeb) → length (direct_flux room fixtures webs) ≡ systems.patches (shares.room_system room threshold)
+pub a_flux_each : (room : Room) (threshold : ℕ) (fixtures : List Fixture) (webs : List PhotometricWeb) → length (direct_flux room fixtures webs) ≡ systems.patches (shares.room_system room threshold)
 unfolding reflectances_of
 a_flux_each room threshold fixtures webs = length-map (patches room) (flux_on webs fixtures) ∙ sym (length-map (patches room) (λ (patch : Patch). patch.reflectance))
 

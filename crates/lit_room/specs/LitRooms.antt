@@ -14,7 +14,7 @@ use Rattle.grids.specs.declared.spec.GridSpec.{GridSpec}
 use Rattle.grids.specs.Grids.{grid_of}
 use Rattle.grids.specs.Validity.{grid_duties}
 use Rattle.photo_web.specs.Web.{PhotometricWeb}
-use Rattle.project_file.specs.Projects.{Project}
+use Rattle.project_file.specs.Projects.{Project, project_room}
 use Rattle.room_patches.specs.declared.spec.RoomSpec.{RoomSpec}
 use Rattle.room_patches.specs.Validity.{room_duties}
 use Rattle.transfer_shares.specs.Shares as shares
@@ -32,11 +32,11 @@ fixtures_of lighting = map fixture_of lighting.project.fixtures
 
 -- its room as a flux system, with the project's threshold
 abbrev pub system_of : Lighting → FluxSystem
-system_of lighting = shares.room_system lighting.project.room lighting.project.threshold
+system_of lighting = shares.room_system (project_room lighting.project) lighting.project.threshold
 
 -- what its luminaires send to each patch
 abbrev pub flux_of : Lighting → List ℕ
-flux_of lighting = direct_flux lighting.project.room (fixtures_of lighting) lighting.webs
+flux_of lighting = direct_flux (project_room lighting.project) (fixtures_of lighting) lighting.webs
 
 -- the grids that its checks ask for in its room
 abbrev pub grids_of : Lighting → List GridSpec
@@ -53,7 +53,7 @@ checks_duty room checks = each (length checks) (check_duty room checks)
 -- what makes a room lit, as tests in their order, each with its refusal: its room, its luminaires, the limits of flux, and its checks
 unfoldable pub lighting_duties : Lighting → List (Duty LightFault)
 lighting_duties lighting =
-    option_map fault.Room (first (room_duties lighting.project.room))
+    option_map fault.Room (first (room_duties (project_room lighting.project)))
     ∷ option_map fault.Fixture (placing_duty lighting.project.room lighting.project.fixtures)
     ∷ option_map fault.Limits (first (limit_duties (system_of lighting) (flux_of lighting)))
     ∷ checks_duty lighting.project.room lighting.project.checks

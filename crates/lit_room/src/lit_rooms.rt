@@ -4,6 +4,7 @@ ghost use Rattle.duties.specs.Duties.{first};
 ghost use Rattle.fixtures.specs.Fixtures.{IsPlaced};
 ghost use Rattle.flux_system.specs.Limits.{limit_duties};
 ghost use Rattle.flux_system.specs.System.{patches};
+ghost use Rattle.project_file.specs.Projects.{project_room};
 ghost use Rattle.lit_room.specs.LitRooms.{Lighting, fixtures_of, system_of, flux_of, grids_of, lit_room_of};
 ghost use Rattle.lit_room.specs.declared.faults.LightFault.TheVariants as fault;
 
@@ -57,7 +58,7 @@ impl LitRoom {
         ensures ok { IfOk result (λ lit_room. lit_room_of (record { project = project; webs = webs.items }) ≡ Ok lit_room) }
         ensures fault { IfErr result (λ answer. answer ≢ fault.Memory → lit_room_of (record { project = project; webs = webs.items }) ≡ Err answer) }
     {
-        let room = match make_room(alloc, project.room()) {
+        let room = match make_room(alloc, project.room(), project.regions()) {
             Ok(room) => room,
             Err(fault) => return Err(fault),
         };
@@ -109,7 +110,7 @@ impl LitRoom {
 
     /// The room.
     pub fn room(&self) -> &Room
-        ensures { result.now ≡ self.now.project.room }
+        ensures { result.now ≡ project_room self.now.project }
     {
         &self.room
     }

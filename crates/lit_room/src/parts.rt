@@ -21,17 +21,22 @@ use fixtures::{Fixture, FixtureFault, FixtureSpec, place};
 use flux_system::{LimitFault, System};
 use grids::{Grid, GridFault};
 use photo_web::Web;
-use room_patches::{Room, RoomFault, RoomSpec};
+use room_patches::{Region, Room, RoomFault, RoomSpec};
 use std::alloc::Global;
 use std::thread::Threads;
 use transfer_shares::{all_rows, reflectances};
 
 /// The room, where it is valid.
-pub(crate) fn make_room(alloc: Global, spec: RoomSpec) -> Result<Room, LightFault>
-    ensures room { IfOk result (λ room. room ≡ spec) }
-    ensures answer { Answers fault.Memory (option_map fault.Room (first (room_duties spec))) result }
+pub(crate) fn make_room(
+    alloc: Global,
+    spec: RoomSpec,
+    regions: &[Region],
+) -> Result<Room, LightFault>
+    requires { length regions.now ≤ 16 }
+    ensures room { IfOk result (λ room. room ≡ record { spec = spec; regions = regions.now }) }
+    ensures answer { Answers fault.Memory (option_map fault.Room (first (room_duties (record { spec = spec; regions = regions.now })))) result }
 {
-    match Room::new(alloc, spec) {
+    match Room::new(alloc, spec, regions) {
         Ok(room) => Ok(room),
         Err(RoomFault::Memory) => Err(LightFault::Memory),
         Err(fault) => Err(LightFault::Room(fault)),
@@ -47,7 +52,7 @@ pub(crate) fn place_all(
     requires { length specs.now ≤ 256 }
     ensures fixtures { IfOk result (λ fixtures. fixtures.items ≡ map fixture_of specs.now) }
     ensures placed { IfOk result (λ fixtures. All IsPlaced fixtures.items) }
-    ensures answer { Answers fault.Memory (option_map fault.Fixture (placing_duty room.now specs.now)) result }
+    ensures answer { Answers fault.Memory (option_map fault.Fixture (placing_duty room.now.spec specs.now)) result }
 {
     match place(alloc, room, specs) {
         Ok(fixtures) => Ok(fixtures),
@@ -120,8 +125,8 @@ pub(crate) fn lay_grids(
     checks: &[CheckSpec],
 ) -> Result<Vec<Grid>, LightFault>
     requires { length checks.now ≤ 32 }
-    ensures grids { IfOk result (λ grids. grids.items ≡ map (grid_of room.now) checks.now) }
-    ensures answer { Answers fault.Memory (checks_duty room.now checks.now) result }
+    ensures grids { IfOk result (λ grids. grids.items ≡ map (grid_of room.now.spec) checks.now) }
+    ensures answer { Answers fault.Memory (checks_duty room.now.spec checks.now) result }
 {
     let mut grids = Vec::with_capacity(alloc, checks.len())?;
     for (at, check) in checks.iter().enumerate() {
@@ -132,8 +137,8 @@ pub(crate) fn lay_grids(
 
 // The grid of a check, where it can be laid in the room.
 fn lay_grid(alloc: Global, room: &Room, at: u32, check: &CheckSpec) -> Result<Grid, LightFault>
-    ensures grid { IfOk result (λ grid. grid ≡ grid_of room.now check.now) }
-    ensures answer { Answers fault.Memory (option_map (fault.Grid at) (first (grid_duties (grid_of room.now check.now)))) result }
+    ensures grid { IfOk result (λ grid. grid ≡ grid_of room.now.spec check.now) }
+    ensures answer { Answers fault.Memory (option_map (fault.Grid at) (first (grid_duties (grid_of room.now.spec check.now)))) result }
 {
     match Grid::new(alloc, room, check) {
         Ok(grid) => Ok(grid),

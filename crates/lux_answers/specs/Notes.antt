@@ -74,6 +74,7 @@ room_note room.Size = codes "size"
 room_note room.Counts = codes "counts"
 room_note (room.Patches n) = codes "patches " ++ decimal n
 room_note room.Reflectance = codes "reflectance"
+room_note (room.Region at) = codes "region " ++ decimal at
 room_note room.Memory = codes "memory"
 
 abbrev pub fixture_note : FixtureFault → List ℕ

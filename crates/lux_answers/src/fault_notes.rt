@@ -114,6 +114,7 @@ impl fmt::Display for RoomNote {
             RoomFault::Counts => write!(f, "counts"),
             RoomFault::Patches { n } => write!(f, "patches {n}"),
             RoomFault::Reflectance => write!(f, "reflectance"),
+            RoomFault::Region { at } => write!(f, "region {at}"),
             RoomFault::Memory => write!(f, "memory"),
         }
     }

@@ -20,7 +20,8 @@ use Rattle.grids.specs.Grids.{count, point_at, points}
 use Rattle.grids.specs.GridPoint.{direct_at}
 use Rattle.lit_room.specs.LitRooms.{Lighting, fixtures_of, system_of, flux_of}
 use Rattle.room_patches.specs.declared.patch.Patch.{Patch}
-use Rattle.room_patches.specs.declared.spec.RoomSpec.{RoomSpec}
+use Rattle.project_file.specs.Projects.{project_room}
+use Rattle.room_patches.specs.Rooms.{Room}
 use Rattle.room_patches.specs.Patches.{patches}
 use Rattle.transfer_shares.specs.Shares.{reflectances_of}
 use Rattle.lux_report.specs.Facts.{judged_checks}
@@ -46,9 +47,9 @@ flux_enclosed l ledger bounds are direct enclosed j inside num den exact =
     rw here (between (interval.low_end ledger j) (interval.high_end (system_of l) ledger j) (num j) den ends.0 ends.1)
 
 -- the room has as many patches as its system
-pub as_many : (l : Lighting) (room : RoomSpec) → room ≡ l.project.room → length (patches room) ≡ systems.patches (system_of l)
+pub as_many : (l : Lighting) (room : Room) → room ≡ project_room l.project → length (patches room) ≡ systems.patches (system_of l)
 unfolding reflectances_of
-as_many l room same = rw same (sym (length-map (patches l.project.room) (λ (patch : Patch). patch.reflectance)))
+as_many l room same = rw same (sym (length-map (patches (project_room l.project)) (λ (patch : Patch). patch.reflectance)))
 
 -- there is direct light at each point
 pub as_many_points : (l : Lighting) (grid : GridSpec) (direct : List ℕ) → direct ≡ direct_on l grid → length direct ≡ count grid
@@ -57,8 +58,8 @@ as_many_points l grid direct is =
 
 module _ (l : Lighting) (grid : GridSpec) (bounds points : List (ℕ × ℕ)) where
   -- the exact light at each point
-  pub light_enclosed : grid.room ≡ l.project.room → EncloseFlux l bounds → EnclosePoints l grid bounds points → EncloseLight l grid points
-  light_enclosed same flux enclosed g inside num den exact = enclosed g inside num den exact.positive (λ i below. flux i (rw (as_many l grid.room same) at below) num den exact)
+  pub light_enclosed : EncloseFlux l bounds → EnclosePoints l grid bounds points → EncloseLight l grid points
+  light_enclosed flux enclosed g inside num den exact = enclosed g inside num den exact.positive (λ i below. flux i (rw (as_many l (project_room l.project) refl) at below) num den exact)
 
   -- all values at the points
   pub values_within : length points ≡ count grid → EncloseLight l grid points → ForExactFlux l (λ num den. LieWithin points (exact_points l grid num den) (shared_bottom den))

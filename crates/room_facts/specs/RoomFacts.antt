@@ -11,6 +11,7 @@ use Rattle.grids.specs.Grids.{grid_of, count}
 use Rattle.grids.specs.GridPoint.{direct_light, light_between}
 use Rattle.lit_room.specs.LitRooms.{Lighting, fixtures_of, system_of}
 use Rattle.lux_report.specs.Facts.{Facts}
+use Rattle.project_file.specs.Projects.{project_room}
 
 -- the direct light at the points of a grid
 abbrev pub direct_on : Lighting → GridSpec → List ℕ
@@ -18,7 +19,7 @@ direct_on lighting grid = direct_light grid (fixtures_of lighting) lighting.webs
 
 -- the intervals of the points of a grid, by those of the patches
 abbrev pub point_intervals : Lighting → List (ℕ × ℕ) → GridSpec → List (ℕ × ℕ)
-point_intervals lighting bounds grid = map (light_between grid (direct_on lighting grid) bounds) (range_with_len 0 (count grid))
+point_intervals lighting bounds grid = map (light_between (project_room lighting.project) grid (direct_on lighting grid) bounds) (range_with_len 0 (count grid))
 
 -- the intervals of the points of a check, by a ledger
 abbrev pub check_intervals : Lighting → Ledger → CheckSpec → List (ℕ × ℕ)

@@ -13,6 +13,7 @@ use Rattle.grids.specs.declared.spec.GridSpec.{GridSpec}
 use Rattle.grids.specs.Grids.{grid_of, count}
 use Rattle.grids.specs.GridPoint.{exact_light}
 use Rattle.lit_room.specs.LitRooms.{Lighting, system_of, flux_of}
+use Rattle.project_file.specs.Projects.{project_room}
 use Rattle.lux_report.specs.Facts.{Facts, judged_checks}
 use Rattle.room_facts.specs.RoomFacts.{direct_on}
 
@@ -27,7 +28,7 @@ ForExactFlux lighting P = (num : ℕ → ℕ) (den : ℕ) → IsExactFlux lighti
 
 -- the exact light at point g of a grid, in nanolux
 abbrev pub exact_point : Lighting → GridSpec → (ℕ → ℕ) → ℕ → ℕ → Fraction
-exact_point lighting grid num den g = exact_light grid (direct_on lighting grid) g num den
+exact_point lighting grid num den g = exact_light (project_room lighting.project) grid (direct_on lighting grid) g num den
 
 -- the same at all its points, over the bottom that they share
 abbrev pub exact_points : Lighting → GridSpec → (ℕ → ℕ) → ℕ → List ℕ

@@ -13,7 +13,7 @@ use Rattle.run_words.specs.declared.readings.RunWords.{RunWords}
 abbrev pub run_options : Options
 run_options = record { flags = codes "--csv" ∷ []; settings = codes "--shooters" ∷ [] }
 
--- the number of shooters that a word says: a numeral of 1 to 16
+-- the number of shooters that a word says: a numeral of 1 to 64
 abbrev pub shooters_in : List ℕ → Option ℕ
 shooters_in word = if is_numeral word && is_shooter_count (numeral_value word) then Some (numeral_value word) else None
 

@@ -140,7 +140,7 @@ module _ (w : ShootingWorld) (o : IsInOrder w) where
       retire_wins_fit = let fits = wins_fit w.system w.direct w.words without_one after_all_in.accounts 0 after_all_in.first in let is = ap wins_of desk_now in omega arith
 
       -- where there are few views
-      pub retire_err_fits : length w.views ≤ 17 → (j : ℕ) → j < patches w.system → err_at j (desk_of w) + err_at j v ≤ 19000000000000
+      pub retire_err_fits : length w.views ≤ 65 → (j : ℕ) → j < patches w.system → err_at j (desk_of w) + err_at j v ≤ 67000000000000
       retire_err_fits few j h =
           let less = after_all_in.accounts.fractions 0 spent_view after_all_in.first j h in
           let is = ap (err_at j) desk_now ∙ list-at (λ m. err_at m (desk_of w) + err_at m v) (patches (desk_of w).system) j (in_desk j h) in

@@ -120,7 +120,7 @@ module _ (m : Inside) (ok : IsWorld m.system.value m.direct.value m.words m.desk
     pub retire_given : (j : ℕ) → j < length m.desk.taken → get_or m.desk.given j 0 + get_or a.given j 0 < 18446744073709551616
     retire_given j h = let fits = retire_given_fits (world m ok) (order m ok) actor hired_retirer legal j (in_patches j h) in let is = ap (given_at j) (seen hired_retirer) in omega arith
 
-    few_views : length (world m ok).views ≤ 17
+    few_views : length (world m ok).views ≤ 65
     few_views = let long = views-length s direct m.words m.desk m.hired m.actors.items ok.few in let few = ok.few in let seats = ok.seats in omega arith
 
     pub retire_err : (j : ℕ) → j < length m.desk.taken → get_or m.desk.err j 0 + get_or a.hand.fractions j 0 < 18446744073709551616

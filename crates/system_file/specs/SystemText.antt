@@ -4,7 +4,7 @@ use Rattle.std.specs.List.{range_with_len, flat_map}
 use Rattle.std.specs.Option.{option_map}
 use Rattle.std.specs.Str.{bytes_eq}
 use Rattle.duties.specs.Duties.{Duty, unless, first, each, judged}
-use Rattle.flux_system.specs.declared.TheConstants.{MOST_PATCHES}
+use Rattle.system_file.specs.declared.TheConstants.{MOST_LISTED_PATCHES}
 use Rattle.flux_system.specs.declared.faults.SystemFault.{SystemFault}
 use Rattle.flux_system.specs.declared.faults.SystemFault.TheVariants as system
 use Rattle.flux_system.specs.System.{FluxSystem}
@@ -47,7 +47,7 @@ unfoldable pub head_duties : List ℕ → List (Duty SysFault)
 head_duties text =
     unless (bytes_eq (line_text text 0) (codes "lux-system 1")) Header
     ∷ line_duty text 1 (codes "patches") 1
-    ∷ unless (nat_le 1 (patch_count text) && nat_le (patch_count text) MOST_PATCHES) (Size (patch_count text))
+    ∷ unless (nat_le 1 (patch_count text) && nat_le (patch_count text) MOST_LISTED_PATCHES) (Size (patch_count text))
     ∷ line_duty text 2 (codes "threshold") 1
     ∷ []
 

@@ -22,7 +22,7 @@ pub enum SysFault {
     /// This line stands behind the last.
     #[error("line {line} stands behind the last")]
     Trailing { line: u32 },
-    /// There are not 1 to `MOST_PATCHES` patches.
+    /// There are not 1 to `MOST_LISTED_PATCHES` patches.
     #[error("{n} patches")]
     Size { n: u64 },
     /// The threshold isn't 1 to 10^16 nanolumens.

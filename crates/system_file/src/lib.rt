@@ -13,3 +13,6 @@ mod rows;
 
 pub use faults::SysFault;
 pub use reader::read_system;
+
+/// The most patches that a system text lists: fewer than a system has, for a text has a line of shares for each of them.
+pub const MOST_LISTED_PATCHES: usize = 1_024;

@@ -9,9 +9,9 @@ ghost use Rattle.system_file.specs.Rows.{numbers, line_duty};
 ghost use Rattle.system_file.specs.SystemText.{patch_count, head_duties, list_duties, shares_in, system_of};
 ghost use Rattle.system_file.specs.Shapes.{narrow_number};
 
-use crate::SysFault;
 use crate::rows::{append_row, read_number, read_row};
-use flux_system::{MOST_PATCHES, System};
+use crate::{MOST_LISTED_PATCHES, SysFault};
+use flux_system::System;
 use lux_lines::Lines;
 use std::alloc::Global;
 
@@ -52,7 +52,7 @@ fn read_head(source: &mut Lines, row: &mut Vec<u64>) -> Result<(usize, u64), Sys
 {
     read_header(source)?;
     let count = read_number(source, b"patches", row)?;
-    if count < 1 || count > MOST_PATCHES as u64 {
+    if count < 1 || count > MOST_LISTED_PATCHES as u64 {
         return Err(SysFault::Size { n: count });
     }
     let threshold = read_number(source, b"threshold", row)?;

@@ -5,7 +5,7 @@ use Rattle.std.proofs.Math.Nat.{le_of_mul-le-mul_right, mul-mod_left, add-mul-mo
 use Rattle.std.proofs.lemmas.Bool.{cases_lt}
 use Rattle.std.proofs.lemmas.Nat.{div-add-mod'}
 use Rattle.std.proofs.lemmas.List.{get_or-take, get_or-drop, take_all, length-map}
-use Rattle.room_patches.specs.declared.spec.RoomSpec.{RoomSpec}
+use Rattle.room_patches.specs.Rooms.{Room}
 use Rattle.room_patches.specs.declared.patch.Patch.{Patch}
 use Rattle.room_patches.specs.Patches.{patches}
 use Rattle.transfer_shares.specs.Shapes.{IsBand}
@@ -28,18 +28,18 @@ module _ (n start many : ℕ) (some : 1 ≤ n) (band : IsBand n start many) wher
       le_of_mul-le-mul_right {k = n} (omega arith) some
 
 -- a band lies within the rows
-pub rows_within : (room : RoomSpec) (n start many : ℕ) (all : List Patch) → all ≡ patches room → n ≡ length (patches room) → 1 ≤ n → IsBand (length (patches room)) start many → start / n + many / n ≤ length all
+pub rows_within : (room : Room) (n start many : ℕ) (all : List Patch) → all ≡ patches room → n ≡ length (patches room) → 1 ≤ n → IsBand (length (patches room)) start many → start / n + many / n ≤ length all
 rows_within room n start many all all_is n_is some band =
     let le = within n start many some (rw n_is band) in
     let long = ap length all_is in
     omega arith
 
-length-row : (room : RoomSpec) (from : Patch) → length (share_row_from room from) ≡ length (patches room)
+length-row : (room : Room) (from : Patch) → length (share_row_from room from) ≡ length (patches room)
 unfolding shares_of
 length-row room from = length-map (map (weight from) (patches room)) _ ∙ length-map (patches room) (weight from)
 
 -- the rows of a band, one behind the other, are a part of all shares
-pub rows_are_part : (room : RoomSpec) (n start many : ℕ) (all : List Patch) → all ≡ patches room → n ≡ length (patches room) → 1 ≤ n → IsBand (length (patches room)) start many → flat_map (λ from. shares_of (map (weight from) all)) (take (start / n + many / n - start / n) (drop (start / n) all)) ≡ take many (drop start (all_shares room))
+pub rows_are_part : (room : Room) (n start many : ℕ) (all : List Patch) → all ≡ patches room → n ≡ length (patches room) → 1 ≤ n → IsBand (length (patches room)) start many → flat_map (λ from. shares_of (map (weight from) all)) (take (start / n + many / n - start / n) (drop (start / n) all)) ≡ take many (drop start (all_shares room))
 unfolding all_shares
 rows_are_part room n start many all all_is n_is some given =
     let band : IsBand n start many = rw n_is given in
@@ -52,11 +52,11 @@ rows_are_part room n start many all all_is n_is some given =
     ∙ sym between
     ∙ (λ k. take (many-is n start many some band k) (drop (first-is n start many some band k) (flat_map row (patches room))))
 
-pub length-all : (room : RoomSpec) (many : ℕ) → many ≡ length (patches room) * length (patches room) → length (all_shares room) ≡ many
+pub length-all : (room : Room) (many : ℕ) → many ≡ length (patches room) * length (patches room) → length (all_shares room) ≡ many
 length-all room many is = length-all_shares room (length (patches room)) refl ∙ sym is
 
 -- one band of all rows
-pub whole-part : (room : RoomSpec) (many : ℕ) → many ≡ length (patches room) * length (patches room) → take many (drop 0 (all_shares room)) ≡ all_shares room
+pub whole-part : (room : Room) (many : ℕ) → many ≡ length (patches room) * length (patches room) → take many (drop 0 (all_shares room)) ≡ all_shares room
 whole-part room many is = take_all many (all_shares room) (let long = length-all room many is in omega arith)
 
 multiple : (n k before many : ℕ) → (many ≡ k * n) ⊎ (many + before * n ≡ n * n) → many % n ≡ 0
@@ -68,7 +68,7 @@ full_or_rest k n rest (inl h) many e = inl (omega arith)
 full_or_rest k n rest (inr h) many e = inr (omega arith)
 
 -- a chunk of some rows, or the rows that are left
-pub chunk-band : (room : RoomSpec) (n k start many total : ℕ) → n ≡ length (patches room) → total ≡ length (patches room) * length (patches room) → start % (k * n) ≡ 0 → many ≡ min (k * n) (total - start) → start + many ≤ total → IsBand (length (patches room)) start many
+pub chunk-band : (room : Room) (n k start many total : ℕ) → n ≡ length (patches room) → total ≡ length (patches room) * length (patches room) → start % (k * n) ≡ 0 → many ≡ min (k * n) (total - start) → start + many ≤ total → IsBand (length (patches room)) start many
 chunk-band room n k start many total n_is total_is aligned many_is inside =
     let whole : total ≡ n * n = total_is ∙ (λ i. sym n_is i * sym n_is i) in
     let q : ℕ = start / (k * n) in

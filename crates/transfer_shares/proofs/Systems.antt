@@ -6,7 +6,7 @@ use Rattle.std.proofs.lemmas.List.{get_or-map, length-map}
 use Rattle.std.proofs.lemmas.List.Elements.{All-same}
 use Rattle.duties.specs.Duties.{first, each}
 use Rattle.duties.proofs.Orders.{each_none, each_more}
-use Rattle.room_patches.specs.declared.spec.RoomSpec.{RoomSpec}
+use Rattle.room_patches.specs.Rooms.{Room}
 use Rattle.room_patches.specs.declared.patch.Patch.{Patch}
 use Rattle.room_patches.specs.Patches.{patches, IsPatch}
 use Rattle.flux_system.specs.System.{row_total}
@@ -24,7 +24,7 @@ each_all duty (suc n) h = let more : suc n ≡ n + 1 = omega arith in rw more (e
 no_patch : Patch
 no_patch = record { centre = []; axis = 0; rising = true; area = 0; reflectance = 0 }
 
-module _ (room : RoomSpec) where
+module _ (room : Room) where
   length-reflectances : length (reflectances_of room) ≡ length (patches room)
   unfolding reflectances_of
   length-reflectances = length-map (patches room) (λ (patch : Patch). patch.reflectance)
@@ -54,7 +54,7 @@ module _ (room : RoomSpec) where
       let limited = (valid i no_patch h).reflectance in
       omega arith
 
-  pub system_accepted : (n : ℕ) (all : List Patch) → n ≡ length (patches room) → 1 ≤ n → n ≤ 1024 → all ≡ patches room → All IsPatch all → (threshold : ℕ) → 1 ≤ threshold → threshold ≤ 10000000000000000 → first (system_duties (room_system room threshold)) ≡ None
+  pub system_accepted : (n : ℕ) (all : List Patch) → n ≡ length (patches room) → 1 ≤ n → n ≤ 4096 → all ≡ patches room → All IsPatch all → (threshold : ℕ) → 1 ≤ threshold → threshold ≤ 10000000000000000 → first (system_duties (room_system room threshold)) ≡ None
   system_accepted n all n_is some few all_is valid threshold positive limited =
       let s = room_system room threshold in
       let long = length-reflectances in

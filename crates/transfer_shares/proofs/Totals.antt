@@ -1,10 +1,11 @@
 -- The shares of a row sum to less than the whole.
 use Rattle.std.proofs.Common.{◌≡◌, ℕ, zero, suc, ◌*◌, ◌/◌, ◌<◌, ◌≤◌, ◌⊎◌, inl, inr, List, [], ◌∷◌, map, length, take, refl, sym, subst, ap, ◌∙◌, arith}
-use Rattle.std.specs.List.{sum}
+use Rattle.std.specs.List.{sum, sum_by}
 use Rattle.std.proofs.lemmas.Bool.{cases_lt, ne_eqb}
 use Rattle.std.proofs.lemmas.Nat.{mul-le, div-add-mod'}
-use Rattle.std.proofs.lemmas.List.{take_all}
-use Rattle.std.proofs.lemmas.List.Sums.{sum_by-cons}
+use Rattle.std.proofs.lemmas.List.{take_all, length-map, take-map}
+use Rattle.std.proofs.lemmas.Simd.{map-map}
+use Rattle.std.proofs.lemmas.List.Sums.{sum_by-cons, sum-map}
 use Rattle.transfer_shares.specs.Shares.{weight_share, shares_of}
 
 -- where nothing weighs there are no shares
@@ -54,3 +55,10 @@ shares_by_total weights shares total e h = subst (λ (t : ℕ). shares ≡ map (
 pub shares_by_places : (i total : ℕ) (weights into : List ℕ) → total ≡ sum weights → length into ≡ length weights → length weights ≤ i → take i into ≡ map (weight_share total) (take i weights) → into ≡ shares_of weights
 shares_by_places i total weights into e same done h =
     shares_by_total weights into total e (sym (take_all i into (omega arith)) ∙ h ∙ ap (map (weight_share total)) (take_all i weights done))
+
+-- and where each weight was found anew
+pub shares_by_weights : {X : Type 0} (weigh : X → ℕ) (xs : List X) (i total : ℕ) (into : List ℕ) → total ≡ sum_by weigh xs → length into ≡ length xs → length xs ≤ i → take i into ≡ map (λ x. weight_share total (weigh x)) (take i xs) → into ≡ shares_of (map weigh xs)
+shares_by_weights weigh xs i total into e same done h =
+    let long = length-map xs weigh in
+    shares_by_places i total (map weigh xs) into (e ∙ sym (sum-map weigh xs)) (omega arith) (omega arith)
+    (h ∙ (sym (map-map (weight_share total) weigh (take i xs)) ∙ ap (map (weight_share total)) (sym (take-map weigh i xs))))

@@ -3,7 +3,7 @@
 -- true form factors, and they need not be reciprocal.
 use Rattle.std.specs.Prelude.{ℕ, ◌-◌, ◌*◌, ◌/◌, ◌^◌, ◌==◌, ◌&&◌, nat_lt, if◌then◌else◌, List, [], map, sum, option_map, unwrap_or, slice_get}
 use Rattle.std.specs.List.{flat_map}
-use Rattle.room_patches.specs.declared.spec.RoomSpec.{RoomSpec}
+use Rattle.room_patches.specs.Rooms.{Room}
 use Rattle.room_patches.specs.declared.patch.Patch.{Patch}
 use Rattle.room_patches.specs.Patches.{patches, in_front}
 use Rattle.room_patches.specs.Places.{squared_distance}
@@ -24,7 +24,7 @@ weight from to =
     else 0
 
 -- the weights from a patch to all patches of the room
-abbrev pub weights : RoomSpec → Patch → List ℕ
+abbrev pub weights : Room → Patch → List ℕ
 weights room from = map (weight from) (patches room)
 
 -- the share that a weight has in a sum of weights, cut; none where nothing weighs
@@ -36,21 +36,21 @@ unfoldable pub shares_of : List ℕ → List ℕ
 shares_of weights = map (weight_share (sum weights)) weights
 
 -- the shares from a patch to all patches of the room
-abbrev pub share_row_from : RoomSpec → Patch → List ℕ
+abbrev pub share_row_from : Room → Patch → List ℕ
 share_row_from room from = shares_of (weights room from)
 
 -- the shares from patch i
-abbrev pub room_share_row : RoomSpec → ℕ → List ℕ
+abbrev pub room_share_row : Room → ℕ → List ℕ
 room_share_row room i = unwrap_or (option_map (share_row_from room) (slice_get (patches room) i)) []
 
 -- all shares, a row for each patch
-unfoldable pub all_shares : RoomSpec → List ℕ
+unfoldable pub all_shares : Room → List ℕ
 all_shares room = flat_map (share_row_from room) (patches room)
 
 -- the reflectance of each patch
-unfoldable pub reflectances_of : RoomSpec → List ℕ
+unfoldable pub reflectances_of : Room → List ℕ
 reflectances_of room = map (λ patch. patch.reflectance) (patches room)
 
 -- the flux system of a room, with a threshold
-abbrev pub room_system : RoomSpec → ℕ → FluxSystem
+abbrev pub room_system : Room → ℕ → FluxSystem
 room_system room threshold = record { threshold = threshold; reflectance = reflectances_of room; shares = all_shares room }

@@ -10,6 +10,7 @@ ghost use Rattle.transfer_shares.specs.Shares.{weight, shares_of, all_shares, ro
 use crate::memory::{Remembered, SLOTS};
 use crate::quick_sharing::share_quickly;
 use crate::quick_weighing::weigh_quickly;
+use crate::rows::write_row;
 use rayon::prelude::*;
 use room_patches::{MOST_PATCHES, Patch, Room};
 use std::alloc::{AllocError, Global};
@@ -37,18 +38,18 @@ pub fn all_rows(
     let n = room.len();
     let patches = room.patches();
     let mut shares = vec![in alloc; 0; n * n]?;
-    write_all(rt, room, &mut shares);
+    write_all(rt, alloc, room, &mut shares);
     Ok(shares)
 }
 
 // Writes the shares of all patches, in threads where there are many.
-fn write_all(rt: &(impl Threads + Sync), room: &Room, into: &mut [u32])
+fn write_all(rt: &(impl Threads + Sync), alloc: Global, room: &Room, into: &mut [u32])
     requires { length into.old ≡ length (patches room.now) * length (patches room.now) }
     ensures { into.new ≡ all_shares room.now }
 {
     let n = room.len();
     if n < LEAST_SHARED {
-        write_band(room, 0, into);
+        write_band(alloc, room, 0, into);
         return;
     }
     let rows = n.div_ceil(BANDS).max(LEAST_ROWS);
@@ -59,12 +60,12 @@ fn write_all(rt: &(impl Threads + Sync), room: &Room, into: &mut [u32])
         |start: usize, band: &mut [u32]|
             requires { IsBand (length (patches room.now)) start (length band.now) }
             ensures { band.exit.now ≡ take (length band.entry.now) (drop start (all_shares room.entry.now)) }
-        { write_band(room, start, band) },
+        { write_band(alloc, room, start, band) },
     );
 }
 
 // Writes the rows that stand from place `start` on, as many as there is room for.
-fn write_band(room: &Room, start: usize, into: &mut [u32])
+fn write_band(alloc: Global, room: &Room, start: usize, into: &mut [u32])
     requires { IsBand (length (patches room.now)) start (length into.old) }
     ensures { into.new ≡ take (length into.old) (drop start (all_shares room.now)) }
 {
@@ -72,11 +73,26 @@ fn write_band(room: &Room, start: usize, into: &mut [u32])
     let first = start / n;
     let count = into.len() / n;
     let patches = room.patches();
-    write_rows(&patches[first..first + count], patches, into);
+    write_rows(alloc, &patches[first..first + count], patches, into);
+}
+
+// Writes a row for each patch of a band: quickly where there is memory for the weights of a row.
+fn write_rows(alloc: Global, band: &[Patch], patches: &[Patch], into: &mut [u32])
+    requires band { All IsPatch band.now }
+    requires patches { All IsPatch patches.now }
+    requires few { length patches.now ≤ MOST_PATCHES }
+    requires places { length into.old ≡ length band.now * length patches.now }
+    ensures { into.new ≡ flat_map (λ from. shares_of (map (weight from) patches.now)) band.now }
+{
+    match vec![in alloc; 0u128; patches.len()] {
+        Ok(mut weights) => write_rows_quickly(&mut weights, band, patches, into),
+        Err(_) => write_rows_plainly(band, patches, into),
+    }
 }
 
 // Writes a row for each patch of a band, with what one memory remembers.
-fn write_rows(band: &[Patch], patches: &[Patch], into: &mut [u32])
+fn write_rows_quickly(weights: &mut [u128], band: &[Patch], patches: &[Patch], into: &mut [u32])
+    requires weights { length weights.old ≡ length patches.now }
     requires band { All IsPatch band.now }
     requires patches { All IsPatch patches.now }
     requires few { length patches.now ≤ MOST_PATCHES }
@@ -84,11 +100,23 @@ fn write_rows(band: &[Patch], patches: &[Patch], into: &mut [u32])
     ensures { into.new ≡ flat_map (λ from. shares_of (map (weight from) patches.now)) band.now }
 {
     let mut memory = [Remembered::nothing(); SLOTS];
-    let mut weights = [0u128; MOST_PATCHES];
     let n = patches.len();
-    let weights = &mut weights[..n];
     for (i, from) in band.iter().enumerate() {
         let total = weigh_quickly(&mut memory, from, patches, weights);
         share_quickly(weights, total, &mut into[i * n..i * n + n]);
+    }
+}
+
+// The same without memory of any kind.
+fn write_rows_plainly(band: &[Patch], patches: &[Patch], into: &mut [u32])
+    requires band { All IsPatch band.now }
+    requires patches { All IsPatch patches.now }
+    requires few { length patches.now ≤ MOST_PATCHES }
+    requires places { length into.old ≡ length band.now * length patches.now }
+    ensures { into.new ≡ flat_map (λ from. shares_of (map (weight from) patches.now)) band.now }
+{
+    let n = patches.len();
+    for (i, from) in band.iter().enumerate() {
+        write_row(from, patches, &mut into[i * n..i * n + n]);
     }
 }

@@ -8,7 +8,7 @@ use crate::sharing::share_out;
 // Writes the shares of some weights, whose sum is known.
 pub(crate) fn share_quickly(weights: &[u128], total: u128, into: &mut [u32])
     requires sum { total ≡ sum weights.now }
-    requires most { total ≤ 1024 * 10 ^ 25 }
+    requires most { total ≤ 4096 * 10 ^ 25 }
     requires places { length into.old ≡ length weights.now }
     ensures { into.new ≡ shares_of weights.now }
 {

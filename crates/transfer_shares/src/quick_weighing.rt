@@ -87,7 +87,7 @@ pub(crate) fn weigh_quickly(
     requires places { length into.old ≡ length patches.now }
     ensures weights { into.new ≡ map (weight from.now) patches.now }
     ensures total { result ≡ sum into.new }
-    ensures most { result ≤ 1024 * 10 ^ 25 }
+    ensures most { result ≤ 4096 * 10 ^ 25 }
 {
     let mut total = 0;
     for (i, to) in patches.iter().enumerate() {

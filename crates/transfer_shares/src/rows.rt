@@ -3,8 +3,8 @@ ghost use Rattle.std.specs.Prelude.{◌≡◌, ◌-◌, ◌<◌, ◌≤◌, ◌^
 ghost use Rattle.room_patches.specs.Patches.{patches, IsPatch};
 ghost use Rattle.transfer_shares.specs.Shares.{weight, shares_of, room_share_row, reflectances_of};
 
-use crate::sharing::share_out;
-use crate::weighing::weigh;
+use crate::sharing::weight_share;
+use crate::weighing::{total_weight, weight};
 use room_patches::{MOST_PATCHES, Patch, Room};
 use std::alloc::{AllocError, Global};
 
@@ -32,8 +32,9 @@ pub fn reflectances(alloc: Global, room: &Room) -> Result<Vec<u32>, AllocError>
         .collect(alloc)
 }
 
-// Writes the shares of the flux from one patch that fall on each of some patches.
-fn write_row(from: &Patch, patches: &[Patch], into: &mut [u32])
+// Writes the shares of the flux from one patch that fall on each of some patches. Each weight is found twice, so that none
+// has to be kept.
+pub(crate) fn write_row(from: &Patch, patches: &[Patch], into: &mut [u32])
     requires from { IsPatch from.now }
     requires patches { All IsPatch patches.now }
     requires few { length patches.now ≤ MOST_PATCHES }
@@ -41,8 +42,8 @@ fn write_row(from: &Patch, patches: &[Patch], into: &mut [u32])
     ensures shares { into.new ≡ shares_of (map (weight from.now) patches.now) }
     ensures total { sum into.new ≤ 10 ^ 9 - 1 }
 {
-    let mut weights = [0u128; MOST_PATCHES];
-    let weights = &mut weights[..patches.len()];
-    let total = weigh(from, patches, weights);
-    share_out(weights, total, into);
+    let total = total_weight(from, patches);
+    for (i, to) in patches.iter().enumerate() {
+        into[i] = weight_share(total, weight(from, to));
+    }
 }

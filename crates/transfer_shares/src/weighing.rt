@@ -1,5 +1,6 @@
 // What the flux between two patches weighs.
-ghost use Rattle.std.specs.Prelude.{◌≡◌, ◌≤◌, ◌*◌, ◌^◌, All, length, map, sum};
+ghost use Rattle.std.specs.Prelude.{◌≡◌, ◌≤◌, ◌*◌, ◌^◌, All, length};
+ghost use Rattle.std.specs.List.{sum_by};
 ghost use Rattle.room_patches.specs.Patches.{IsPatch};
 ghost use Rattle.transfer_shares.specs.Shares.{weight};
 
@@ -24,21 +25,17 @@ pub(crate) fn weight(from: &Patch, to: &Patch) -> u128
     SCALE * there * back * u128::from(to.area) / (square * square)
 }
 
-// Writes the weights from one patch to all, and gives their sum.
-pub(crate) fn weigh(from: &Patch, patches: &[Patch], into: &mut [u128]) -> u128
+// What the flux from one patch to all weighs together.
+pub(crate) fn total_weight(from: &Patch, patches: &[Patch]) -> u128
     requires from { IsPatch from.now }
     requires patches { All IsPatch patches.now }
     requires few { length patches.now ≤ MOST_PATCHES }
-    requires places { length into.old ≡ length patches.now }
-    ensures weights { into.new ≡ map (weight from.now) patches.now }
-    ensures total { result ≡ sum into.new }
-    ensures most { result ≤ 1024 * 10 ^ 25 }
+    ensures total { result ≡ sum_by (weight from.now) patches.now }
+    ensures most { result ≤ 4096 * 10 ^ 25 }
 {
     let mut total = 0;
-    for (i, to) in patches.iter().enumerate() {
-        let weight = weight(from, to);
-        into[i] = weight;
-        total += weight;
+    for to in patches {
+        total += weight(from, to);
     }
     total
 }

@@ -184,7 +184,7 @@ fn shooters_in_threads_leave_a_ledger_that_balances(rt: HostRuntime) -> Result<(
     let alloc = rt.alloc();
     for number in 0..SYSTEMS {
         let figures = figures_of(alloc, number)?;
-        for shooters in [2, 8, 16] {
+        for shooters in [2, 8, 64] {
             for _ in 0..CREWS {
                 let by_greatest = Picker::new(Box::new(alloc, |values: &[u64], threshold: u64| {
                     greatest(values, threshold)
@@ -196,7 +196,7 @@ fn shooters_in_threads_leave_a_ledger_that_balances(rt: HostRuntime) -> Result<(
                     { striped(k, shooters, values, threshold) };
                     pickers.push(Picker::new(Box::new(alloc, by_stripes)?))?;
                 }
-                assert!(rt; 1 <= pickers.len() && pickers.len() <= 16);
+                assert!(rt; 1 <= pickers.len() && pickers.len() <= 64);
                 assert_crew(&rt, alloc, &figures, pickers)?;
             }
         }

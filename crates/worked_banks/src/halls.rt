@@ -150,7 +150,7 @@ fn all_work<R: Threads + Sync>(
     thread::for_each_mut(
         rt,
         shooters,
-        16,
+        64,
         &|_, shooter| {
             shooter.work(bank, system, turns);
         },

@@ -19,7 +19,7 @@ fn threads_leave_a_ledger_that_balances(rt: HostRuntime) -> Result<(), Fail> {
     let alloc = rt.alloc();
     for number in 0..SYSTEMS {
         let figures = figures_of(alloc, number)?;
-        for seats in [2, 8, 16] {
+        for seats in [2, 8, 64] {
             for _ in 0..BANKS {
                 let mut hall = Hall::start(&rt, alloc, &figures, seats)?;
                 hall.work(&rt, TURNS);
@@ -48,11 +48,11 @@ fn threads_leave_a_ledger_that_balances(rt: HostRuntime) -> Result<(), Fail> {
 fn a_bank_is_shared_and_its_seats_are_sent(rt: HostRuntime) -> Result<(), Fail> {
     let alloc = rt.alloc();
     let system = System::new(alloc, &[500, 500], &[0, 500_000_000, 500_000_000, 0], 10)?;
-    let (bank, desk, seats) = Bank::start(alloc, &system, &[50, 0], 16)?;
+    let (bank, desk, seats) = Bank::start(alloc, &system, &[50, 0], 64)?;
     for seat in seats.as_slice() {
         cross_threads(&bank, seat, &desk);
     }
-    assert_eq!(rt; seats.len(), 16);
-    assert_eq!(rt; desk.out(), 16);
+    assert_eq!(rt; seats.len(), 64);
+    assert_eq!(rt; desk.out(), 64);
     Ok(())
 }

@@ -8,7 +8,7 @@ use workload::project_of;
 fn a_project_says_its_files_and_luminaires(rt: HostRuntime) -> Result<(), Fail> {
     let alloc = rt.alloc();
     let project = read_project(alloc, CUBE.as_bytes())?;
-    assert_eq!(rt; project.room().walls, 500);
+    assert_eq!(rt; project.room().walls, [500; 4]);
     assert_eq!(rt; project.threshold(), 5_000_000_000);
     assert_eq!(rt; project.files().len(), 1);
     match project.fixtures().first() {
@@ -58,7 +58,8 @@ fn a_number_gives_a_project(rt: HostRuntime) -> Result<(), Fail> {
         [4_000, 6_000, 3_250]
     );
     assert_eq!(rt; [room.nx, room.ny, room.nz], [8, 12, 6]);
-    assert_eq!(rt; [room.floor, room.ceiling, room.walls], [200, 750, 500]);
+    assert_eq!(rt; [room.floor, room.ceiling], [200, 750]);
+    assert_eq!(rt; room.walls, [500; 4]);
     assert_eq!(rt; project.fixtures().len(), 4);
     assert_eq!(rt; project.checks().len(), 0);
     assert_eq!(rt; web.gammas().len(), 4);

@@ -12,6 +12,8 @@ mod exact;
 #[cfg(test)]
 mod intervals;
 #[cfg(test)]
+mod ledger_texts;
+#[cfg(test)]
 mod ledgers;
 #[cfg(test)]
 mod systems;

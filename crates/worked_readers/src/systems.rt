@@ -1,5 +1,6 @@
 // Flux systems and system texts.
 use flux_system::{Entry, LimitFault, System, SystemFault};
+use std::alloc::{AllocError, Global};
 use std::test::Fail;
 use system_file::{SysFault, read_system};
 use worked_texts::{MOST_BYTES, TWO_PATCHES, first_lines, with_line};
@@ -287,6 +288,25 @@ fn a_system_is_refused_by_its_first_fault(rt: HostRuntime) -> Result<(), Fail> {
     Ok(())
 }
 
+// The reflectances and the shares of so many patches that pass nothing on.
+fn dark_patches(alloc: Global, patches: usize) -> Result<(Vec<u32>, Vec<u32>), AllocError> {
+    let reflectances = Vec::from_elem(alloc, 0, patches)?;
+    let shares = Vec::from_elem(alloc, 0, patches.saturating_mul(patches))?;
+    Ok((reflectances, shares))
+}
+
+#[test]
+fn a_system_has_up_to_4096_patches(rt: HostRuntime) -> Result<(), Fail> {
+    let alloc = rt.alloc();
+    let (reflectances, shares) = dark_patches(alloc, 4_096)?;
+    let system = System::from_vecs(alloc, reflectances, shares, 1)?;
+    assert_eq!(rt; system.len(), 4_096);
+    let (reflectances, shares) = dark_patches(alloc, 4_097)?;
+    let refused = System::from_vecs(alloc, reflectances, shares, 1);
+    assert_eq!(rt; refused.err(), Some(SystemFault::Size { n: 4_097 }));
+    Ok(())
+}
+
 #[test]
 fn a_text_says_its_system(rt: HostRuntime) -> Result<(), Fail> {
     let alloc = rt.alloc();
@@ -302,11 +322,13 @@ fn a_text_says_its_system(rt: HostRuntime) -> Result<(), Fail> {
 #[test]
 fn a_text_is_refused_by_its_first_fault(rt: HostRuntime) -> Result<(), Fail> {
     let alloc = rt.alloc();
-    let rows: [(&str, SysFault); 8] = [
+    let rows: [(&str, SysFault); 10] = [
         ("lux-system 2\n", SysFault::Header),
         ("lux-system 1", SysFault::Short),
         ("lux-system 1\npatches 01", SysFault::Number { line: 2 }),
+        ("lux-system 1\npatches 1024", SysFault::Short),
         ("lux-system 1\npatches 1025", SysFault::Size { n: 1_025 }),
+        ("lux-system 1\npatches 4096", SysFault::Size { n: 4_096 }),
         (
             "lux-system 1\npatches 1\nthreshold 0\ndirect 1\nreflectance 0\nshares 0\nx",
             SysFault::Trailing { line: 7 },

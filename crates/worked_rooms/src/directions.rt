@@ -117,7 +117,7 @@ const HALL: RoomSpec = RoomSpec {
     nz: 1,
     floor: 200,
     ceiling: 700,
-    walls: 500,
+    walls: [500; 4],
 };
 
 // The rotation, the level, a place in half-millimetres, and the intensity towards it in microcandela.

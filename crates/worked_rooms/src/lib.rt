@@ -1,4 +1,4 @@
-//! Worked examples of rooms: directions, intensities and beams, patches, placed luminaires, direct flux, shares and
+//! Worked examples of rooms: directions, intensities and beams, patches, regions, placed luminaires, direct flux, shares and
 //! the light at grids of points.
 //!
 //! This crate has tests alone. The expected values come from calculations by hand or by other programs, and never from
@@ -9,6 +9,8 @@
 mod directions;
 #[cfg(test)]
 mod point_light;
+#[cfg(test)]
+mod regions;
 #[cfg(test)]
 mod room_grids;
 #[cfg(test)]

@@ -28,7 +28,7 @@ const CLOSET: RoomSpec = RoomSpec {
     nz: 8,
     floor: 500,
     ceiling: 500,
-    walls: 500,
+    walls: [500; 4],
 };
 
 fn check_of(alloc: Global, numbers: Numbers) -> Result<CheckSpec, Fail> {

@@ -76,7 +76,7 @@ fn a_room_is_cut_into_patches(rt: HostRuntime) -> Result<(), Fail> {
 }
 
 // Width, depth and height, their parts, and the reflectances of floor, ceiling and walls; and what is wrong with them.
-const FAULTY_ROOMS: [([u32; 9], Option<RoomFault>); 9] = [
+const FAULTY_ROOMS: [([u32; 9], Option<RoomFault>); 10] = [
     (
         [499, 1_000, 1_000, 0, 1, 1, 500, 500, 500],
         Some(RoomFault::Size),
@@ -98,8 +98,8 @@ const FAULTY_ROOMS: [([u32; 9], Option<RoomFault>); 9] = [
         Some(RoomFault::Patches { n: 24_576 }),
     ),
     (
-        [1_000, 1_000, 1_000, 16, 32, 1, 500, 500, 500],
-        Some(RoomFault::Patches { n: 1_120 }),
+        [1_000, 1_000, 1_000, 32, 32, 17, 500, 500, 500],
+        Some(RoomFault::Patches { n: 4_224 }),
     ),
     (
         [1_000, 1_000, 1_000, 1, 1, 1, 500, 951, 500],
@@ -107,6 +107,7 @@ const FAULTY_ROOMS: [([u32; 9], Option<RoomFault>); 9] = [
     ),
     ([100_000, 500, 1_000, 1, 1, 1, 500, 500, 500], None),
     ([1_000, 1_000, 1_000, 16, 16, 8, 950, 950, 950], None),
+    ([1_000, 1_000, 1_000, 32, 32, 16, 950, 950, 950], None),
 ];
 
 fn spec_of(numbers: [u32; 9]) -> RoomSpec {
@@ -120,7 +121,7 @@ fn spec_of(numbers: [u32; 9]) -> RoomSpec {
         nz,
         floor,
         ceiling,
-        walls,
+        walls: [walls; 4],
     }
 }
 
@@ -128,7 +129,7 @@ fn spec_of(numbers: [u32; 9]) -> RoomSpec {
 fn a_room_is_refused_by_its_first_fault(rt: HostRuntime) -> Result<(), Fail> {
     let alloc = rt.alloc();
     for (numbers, expected) in &FAULTY_ROOMS {
-        let room = Room::new(alloc, spec_of(*numbers));
+        let room = Room::new(alloc, spec_of(*numbers), &[]);
         assert_eq!(rt; room.err(), *expected);
     }
     Ok(())

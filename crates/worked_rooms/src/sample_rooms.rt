@@ -12,7 +12,7 @@ pub const OFFICE: RoomSpec = RoomSpec {
     nz: 6,
     floor: 200,
     ceiling: 700,
-    walls: 500,
+    walls: [500; 4],
 };
 
 pub const CUBE: RoomSpec = RoomSpec {
@@ -24,7 +24,7 @@ pub const CUBE: RoomSpec = RoomSpec {
     nz: 1,
     floor: 500,
     ceiling: 500,
-    walls: 500,
+    walls: [500; 4],
 };
 
 // Lengths that no part divides.
@@ -37,10 +37,10 @@ pub const UNEVEN: RoomSpec = RoomSpec {
     nz: 1,
     floor: 100,
     ceiling: 200,
-    walls: 300,
+    walls: [300; 4],
 };
 
 // A room of which nothing is known, so that no proof of a test computes with its patches.
 pub fn room_of(alloc: Global, spec: RoomSpec) -> Result<Room, Fail> {
-    Ok(Room::new(alloc, spec)?)
+    Ok(Room::new(alloc, spec, &[])?)
 }

@@ -162,6 +162,20 @@ fn nobody_is_hired_without_a_seat(rt: HostRuntime) -> Result<(), Fail> {
     Ok(())
 }
 
+#[test]
+fn there_are_seats_for_64_actors(rt: HostRuntime) -> Result<(), Fail> {
+    let alloc = rt.alloc();
+    let mut trial = small_trial(alloc, [1_000, 0], 64)?;
+    for actor in 0..64 {
+        assert!(rt; trial.world.actor(actor).is_none());
+        assert_eq!(rt; trial.step(Event::Hire), Stepped::Moved);
+        assert!(rt; trial.world.actor(actor).is_some());
+    }
+    assert_eq!(rt; trial.step(Event::Hire), Stepped::Stuck);
+    assert_eq!(rt; trial.world.desk().out, 64);
+    Ok(())
+}
+
 // Four patches whose shares leave fractions, one of them with a share to itself, and three seats.
 fn four_patches(alloc: Global) -> Result<Trial, Fail> {
     let mut shares = Vec::new(alloc);

@@ -6,7 +6,7 @@ use Rattle.std.proofs.lemmas.List.Elements.{All-nil, All-weaker}
 use Rattle.duties.specs.Duties.{first}
 use Rattle.room_patches.specs.Validity.{room_duties}
 use Rattle.fixtures.specs.Placing.{placing_duty}
-use Rattle.project_file.specs.Projects.{IsProject, IsCheck}
+use Rattle.project_file.specs.Projects.{IsProject, IsCheck, project_room}
 use Rattle.workload.specs.Generator.{generated_room, generated_layout, luminaires, generated_project}
 use Rattle.workload.specs.Shapes.{IsLayout}
 use Rattle.workload.proofs.Validity.{generated_valid, room_met}
@@ -21,7 +21,7 @@ generated_is_layout number = record {
   few_rows = omega arith;
 }
 
-pub generated_is_project : (number : ℕ) → IsProject 10000000 (codes "gen" ∷ []) (luminaires (generated_layout number)) []
+pub generated_is_project : (number : ℕ) → IsProject [] 10000000 (codes "gen" ∷ []) (luminaires (generated_layout number)) []
 generated_is_project number =
     let layout = generated_is_layout number in
     let count = length-luminaires (generated_layout number) in
@@ -29,6 +29,7 @@ generated_is_project number =
     let few = mul-le (generated_layout number).rows (generated_layout number).columns 3 4 layout.few_rows layout.few_columns in
     let hung = luminaires_hung (generated_layout number) in
     record {
+      few_regions = omega arith;
       some_threshold = omega arith;
       low_threshold = omega arith;
       few_fixtures = omega arith;
@@ -47,7 +48,7 @@ pub one_web : (number : ℕ) → All (λ f. f.web ≡ 0) (generated_project numb
 unfolding generated_project
 one_web number = All-weaker (IsHung (generated_room number)) (λ f. f.web ≡ 0) (λ f h. h.web) _ (luminaires_hung (generated_layout number))
 
-pub accepted_room : (number : ℕ) → first (room_duties (generated_project number).room) ≡ None
+pub accepted_room : (number : ℕ) → first (room_duties (project_room (generated_project number))) ≡ None
 unfolding generated_project
 accepted_room number = room_met (generated_room number) (generated_valid number)
 

@@ -23,12 +23,14 @@ state number (suc k) = next_state (state number k)
 abbrev pub draw : ℕ → ℕ → ℕ
 draw number k = state number k / 65536
 
--- the room of a number: lengths in millimetres, each cut into parts of half a metre, and reflectances in per mille
+-- the room of a number: lengths in millimetres, each cut into parts of half a metre, and reflectances in per mille, one
+-- for all walls
 unfoldable pub generated_room : ℕ → RoomSpec
 generated_room number =
     let width = 4000 + 500 * (draw number 1 % 9) in
     let depth = 3000 + 500 * (draw number 2 % 7) in
     let height = 2500 + 250 * (draw number 3 % 5) in
+    let wall = 400 + 50 * (draw number 6 % 5) in
     record {
       width = width;
       depth = depth;
@@ -38,7 +40,7 @@ generated_room number =
       nz = height / 500;
       floor = 100 + 50 * (draw number 4 % 5);
       ceiling = 600 + 50 * (draw number 5 % 5);
-      walls = 400 + 50 * (draw number 6 % 5);
+      walls = wall ∷ wall ∷ wall ∷ wall ∷ [];
     }
 
 -- the layout of a number: its room, with 1 to 4 columns and 1 to 3 rows of luminaires
@@ -76,6 +78,7 @@ generated_web = expansion Axis (0 ∷ []) (0 ∷ 30000 ∷ 60000 ∷ 90000 ∷ [
 unfoldable pub generated_project : ℕ → Project
 generated_project number = record {
   room = generated_room number;
+  regions = [];
   threshold = 10000000;
   files = codes "gen" ∷ [];
   fixtures = luminaires (generated_layout number);

@@ -2,6 +2,7 @@
 ghost use Rattle.std.specs.Prelude.{◌≡◌, ◌≤◌, None, All, IfOk, length, codes};
 ghost use Rattle.duties.specs.Duties.{first};
 ghost use Rattle.fixtures.specs.Placing.{placing_duty};
+ghost use Rattle.project_file.specs.Projects.{project_room};
 ghost use Rattle.room_patches.specs.Validity.{room_duties};
 ghost use Rattle.workload.specs.Generator.{generated_project, generated_web};
 
@@ -26,7 +27,7 @@ pub fn project_of(alloc: Global, number: u32) -> Result<(Project, Web), AllocErr
     ensures web { IfOk result (λ r. r.1 ≡ generated_web) }
     ensures one_file { IfOk result (λ r. length r.0.files ≡ 1) }
     ensures one_web { IfOk result (λ r. All (λ f. f.web ≡ 0) r.0.fixtures) }
-    ensures accepted_room { IfOk result (λ r. first (room_duties r.0.room) ≡ None) }
+    ensures accepted_room { IfOk result (λ r. first (room_duties (project_room r.0)) ≡ None) }
     ensures accepted_fixtures { IfOk result (λ r. placing_duty r.0.room r.0.fixtures ≡ None) }
 {
     let project = generate_project(alloc, number)?;
@@ -43,7 +44,14 @@ fn generate_project(alloc: Global, number: u32) -> Result<Project, AllocError>
     let layout = Layout::generate(number);
     let fixtures = layout.luminaires(alloc)?;
     let files = vec![in alloc; file_name(alloc)?]?;
-    Ok(Project::new(layout.room, THRESHOLD, files, fixtures, Vec::new(alloc)))
+    Ok(Project::new(
+        layout.room,
+        Vec::new(alloc),
+        THRESHOLD,
+        files,
+        fixtures,
+        Vec::new(alloc),
+    ))
 }
 
 // The name of the file.

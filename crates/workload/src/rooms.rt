@@ -29,6 +29,6 @@ pub(crate) fn generate_room(generator: &mut Generator) -> RoomSpec
         nz: height / PART,
         floor,
         ceiling,
-        walls,
+        walls: [walls; 4],
     }
 }

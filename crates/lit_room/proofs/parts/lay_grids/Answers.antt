@@ -18,20 +18,20 @@ loop-at-preserved c =
     let here : slice_get c.args.checks.now c.loop-at.at ≡ Some c.index-checks-at.result = rw (← c.index-checks-at.is) at (slice_get-get_or c.args.checks.now c.loop-at.at c.index-checks-at.result c.loop-at-test.true) in
     record {
       grids = c.in_ok-push.ensures.items
-          ∙ ((λ k. c.loop-at.invariant.grids k ++ c.in_ok-lay_grid.ensures.grid k ∷ []) ∙ sym (rw (← c.index-checks-at.is) at (map_more (grid_of c.args.room.now) c.args.checks.now c.loop-at.at c.index-checks-at.result c.loop-at-test.true)));
-      met = each_more (check_duty c.args.room.now c.args.checks.now) c.loop-at.at c.loop-at.invariant.met
-          ∙ (duty_at c.args.room.now c.args.checks.now c.loop-at.at _ here ∙ c.in_ok-lay_grid.ensures.answer);
+          ∙ ((λ k. c.loop-at.invariant.grids k ++ c.in_ok-lay_grid.ensures.grid k ∷ []) ∙ sym (rw (← c.index-checks-at.is) at (map_more (grid_of c.args.room.now.spec) c.args.checks.now c.loop-at.at c.index-checks-at.result c.loop-at-test.true)));
+      met = each_more (check_duty c.args.room.now.spec c.args.checks.now) c.loop-at.at c.loop-at.invariant.met
+          ∙ (duty_at c.args.room.now.spec c.args.checks.now c.loop-at.at _ here ∙ c.in_ok-lay_grid.ensures.answer);
     }
 
 pub returns-in_err-lay_grid-clause-answer : goal.returns-in_err-lay_grid-clause-answer
 unfolding checks_duty
 returns-in_err-lay_grid-clause-answer c =
     let here : slice_get c.args.checks.now c.loop-at.at ≡ Some c.index-checks-at.result = rw (← c.index-checks-at.is) at (slice_get-get_or c.args.checks.now c.loop-at.at c.index-checks-at.result c.loop-at-test.true) in
-    each_hands_on Memory _ _ (check_duty c.args.room.now c.args.checks.now) (length c.args.checks.now) c.loop-at.at c.loop-at-test.true c.loop-at.invariant.met c.from_residual-in_err-lay_grid.ensures.1
-    (λ ne. duty_at c.args.room.now c.args.checks.now c.loop-at.at _ here ∙ c.in_err-lay_grid.ensures.answer ne)
+    each_hands_on Memory _ _ (check_duty c.args.room.now.spec c.args.checks.now) (length c.args.checks.now) c.loop-at.at c.loop-at-test.true c.loop-at.invariant.met c.from_residual-in_err-lay_grid.ensures.1
+    (λ ne. duty_at c.args.room.now.spec c.args.checks.now c.loop-at.at _ here ∙ c.in_err-lay_grid.ensures.answer ne)
 
 pub returns-clause-answer : goal.returns-clause-answer
 unfolding checks_duty
 returns-clause-answer c =
     let all : c.loop-at.at ≡ length c.args.checks.now = omega arith in
-    ap (λ (n : ℕ). each n (check_duty c.args.room.now c.args.checks.now)) (sym all) ∙ c.loop-at.invariant.met
+    ap (λ (n : ℕ). each n (check_duty c.args.room.now.spec c.args.checks.now)) (sym all) ∙ c.loop-at.invariant.met

@@ -6,6 +6,6 @@ use Rattle.lit_room.proofs.parts.lay_grids.Given as goal
 
 abbrev pub invariant-loop-at : goal.invariant-loop-at
 invariant-loop-at l = record {
-  grids : l.grids.items ≡ map (grid_of l.room) (take l.at l.checks);
-  met : each l.at (check_duty l.room l.checks) ≡ None;
+  grids : l.grids.items ≡ map (grid_of l.room.spec) (take l.at l.checks);
+  met : each l.at (check_duty l.room.spec l.checks) ≡ None;
 }

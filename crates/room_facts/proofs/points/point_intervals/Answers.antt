@@ -4,6 +4,7 @@ use Rattle.std.proofs.lemmas.Bool.{cases_lt}
 use Rattle.std.proofs.lemmas.List.Elements.{All-push}
 use Rattle.grids.specs.Grids.{count}
 use Rattle.grids.specs.GridPoint.{light_between, EnclosesLight}
+use Rattle.project_file.specs.Projects.{project_room}
 use Rattle.room_facts.specs.RoomFacts.{direct_on}
 use Rattle.room_facts.proofs.NumberedPoints.{more, how_many, at}
 use Rattle.room_facts.proofs.Truths.{as_many, as_many_points}
@@ -26,18 +27,19 @@ loop-g-preserved c =
     let grid = c.args.grid.now in
     let direct = direct_on c.args.lit_room.now grid in
     let bounds = c.args.bounds.now in
-    let light = light_between grid direct bounds in
+    let room = project_room c.args.lit_room.now.project in
+    let light = light_between room grid direct bounds in
     let g = c.loop-g.g in
     let before = c.loop-g.invariant in
     let direct_is : c.deref.result.now ≡ direct = c.deref.ensures.value ∙ (rw (c.fixtures.ensures.value, c.webs.ensures.value) at c.in_ok-direct.ensures.direct) in
-    let here : c.point_interval.result ≡ light g = rw direct_is at c.point_interval.ensures.value in
-    let encloses : EnclosesLight grid direct bounds g (light g) = rw (direct_is, here) at c.point_interval.ensures.encloses in
+    let here : c.point_interval.result ≡ light g = rw (c.room.ensures, direct_is) at c.point_interval.ensures.value in
+    let encloses : EnclosesLight room grid direct bounds g (light g) = rw (c.room.ensures, direct_is, here) at c.point_interval.ensures.encloses in
     let pushed = c.in_ok-push.ensures.items in
     record {
       value = pushed ∙ ((λ k. before.value k ++ here k ∷ []) ∙ sym (more light g));
       enclosed = λ i below. elim (cases_lt i g) [
         | inl earlier ↦ before.enclosed i earlier
-        | inr last ↦ let same : i ≡ g = omega arith in subst (λ (n : ℕ). EnclosesLight grid direct bounds n (light n)) (sym same) encloses
+        | inr last ↦ let same : i ≡ g = omega arith in subst (λ (n : ℕ). EnclosesLight room grid direct bounds n (light n)) (sym same) encloses
       ];
       ordered = rw pushed (All-push (λ (ends : ℕ × ℕ). ends.0 ≤ ends.1) _ _ before.ordered c.point_interval.ensures.order);
       bounded = rw pushed (All-push (λ (ends : ℕ × ℕ). ends.1 ≤ 10 ^ 30) _ _ before.bounded (let low = c.point_interval.ensures.limited in omega arith));
@@ -63,7 +65,7 @@ returns-clause-intervals c =
 pub returns-clause-enclose : goal.returns-clause-enclose
 returns-clause-enclose c = λ g inside.
     let grid = c.args.grid.now in
-    let light = light_between grid (direct_on c.args.lit_room.now grid) c.args.bounds.now in
+    let light = light_between (project_room c.args.lit_room.now.project) grid (direct_on c.args.lit_room.now grid) c.args.bounds.now in
     let below : g < c.loop-g.g = omega (arith, c.len-g-end.ensures.value) in
     let is = c.loop-g.invariant.value in
     rw (is, at light c.loop-g.g g below) (c.loop-g.invariant.enclosed g below)

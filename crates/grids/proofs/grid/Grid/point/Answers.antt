@@ -1,5 +1,6 @@
 use Rattle.std.proofs.Common.{◌≡◌, ◌<◌, ℤ, List, length, sym, ap, subst, ◌∙◌, arith, false}
 use Rattle.std.specs.Prelude.{All}
+use Rattle.room_patches.specs.Rooms.{plain_room}
 use Rattle.room_patches.specs.Patches.{patches}
 use Rattle.room_patches.specs.Places.{IsPlace}
 use Rattle.grids.specs.declared.spec.GridSpec.{GridSpec}
@@ -38,4 +39,4 @@ returns-clause-place c =
 pub returns-clause-apart : goal.returns-clause-apart
 returns-clause-apart c =
     let here = goal.at.returns-clause-apart c in
-    subst (λ (point : List ℤ). All (λ patch. is_too_near point patch ≡ false) (patches c.args.self.now.room)) (sym (found here.After-index)) ((valid here.After-self).apart c.args.g c.requires)
+    subst (λ (point : List ℤ). All (λ patch. is_too_near point patch ≡ false) (patches (plain_room c.args.self.now.room))) (sym (found here.After-index)) ((valid here.After-self).apart c.args.g c.requires)

@@ -1,9 +1,7 @@
-use Rattle.std.proofs.Common.{ap, ◌∙◌}
-use Rattle.room_patches.specs.Patches.{patches}
 use Rattle.grids.proofs.Enclosing.{encloses}
 use Rattle.grids.proofs.grid.Grid.point_interval.Goals as goal
 
 pub returns-clause-encloses : goal.returns-clause-encloses
 returns-clause-encloses c =
-    encloses c.args.self.now c.args.direct.now c.args.bounds.now c.args.g c.patches.result.now c.point.result _ _ _ (c.patches.ensures.value ∙ ap patches c.requires.room) c.point.ensures.value
+    encloses c.args.room.now c.args.self.now c.args.direct.now c.args.bounds.now c.args.g c.patches.result.now c.point.result _ _ _ c.patches.ensures.value c.point.ensures.value
     c.reflected_ends-low.ensures.low c.reflected_ends-low.ensures.high c.div_ceil.ensures

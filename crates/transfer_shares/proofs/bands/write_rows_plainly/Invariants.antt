@@ -1,7 +1,7 @@
 use Rattle.std.proofs.Common.{◌≡◌, ◌*◌, take, map}
 use Rattle.std.specs.List.{flat_map}
 use Rattle.transfer_shares.specs.Shares.{weight, shares_of}
-use Rattle.transfer_shares.proofs.bands.write_rows.Given as goal
+use Rattle.transfer_shares.proofs.bands.write_rows_plainly.Given as goal
 
 abbrev pub invariant-loop-i : goal.invariant-loop-i
 invariant-loop-i l = take (l.i * l.n) l.into ≡ flat_map (λ from. shares_of (map (weight from) l.patches)) (take l.i l.band)
