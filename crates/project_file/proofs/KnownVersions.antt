@@ -1,5 +1,5 @@
 -- Where a file says a version, the field of the version is met.
-use Rattle.std.proofs.Common.{◌≡◌, ◌≤◌, true, false, Option, Some, None, inl, inr, codes, refl, ap, ℕ, ℤ, pos, negsuc, is_some, nat_le, ◌==◌, option_and_then, arith}
+use Rattle.std.proofs.Common.{◌≡◌, true, Option, Some, None, inl, inr, codes, refl, ℤ, pos, negsuc, is_some, ◌==◌, option_and_then, arith}
 use Rattle.std.proofs.lemmas.Bool.{cases_Bool}
 use Rattle.std.proofs.lemmas.Bool.Decides.{nat_tests}
 use Rattle.duties.specs.Duties.{unless, first}

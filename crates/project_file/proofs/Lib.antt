@@ -3,6 +3,8 @@ pub mod ListedTables
 pub mod Files
 pub mod Keys
 pub mod Lists
+pub mod Members
+pub mod Migrations
 pub mod Repetitions
 pub mod Steps
 pub mod KnownVersions

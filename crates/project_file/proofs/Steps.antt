@@ -1,5 +1,5 @@
 -- A call that ends with the answer of another.
-use Rattle.std.proofs.Common.{◌≡◌, ◌∙◌, List, [], ◌∷◌, Option, Some, None, Result}
+use Rattle.std.proofs.Common.{◌≡◌, ◌∙◌, [], ◌∷◌, Option, Some, None, Result}
 use Rattle.duties.specs.Duties.{Answers, first}
 use Rattle.duties.proofs.Orders.{this_met, front_met, fault_in_front, last_decides}
 
@@ -19,10 +19,3 @@ fourth_answers memory r one two three last h g answer =
 -- a fault of the two in the middle is the fault of all
 pub middle_fails : {F : Type 0} (one two three last : Option F) (f : F) → one ≡ None → first (two ∷ three ∷ []) ≡ Some f → first (one ∷ two ∷ three ∷ last ∷ []) ≡ Some f
 middle_fails one two three last f h g = this_met one (two ∷ three ∷ last ∷ []) h ∙ fault_in_front (two ∷ three ∷ []) (last ∷ []) f g
-
--- two duties in front of others: their fault is the first, and where both are met they change nothing
-pub pair_fails : {F : Type 0} (one two : Option F) (rest : List (Option F)) (f : F) → first (one ∷ two ∷ []) ≡ Some f → first (one ∷ two ∷ rest) ≡ Some f
-pair_fails one two rest f h = fault_in_front (one ∷ two ∷ []) rest f h
-
-pub pair_met : {F : Type 0} (one two : Option F) (rest : List (Option F)) → first (one ∷ two ∷ []) ≡ None → first (one ∷ two ∷ rest) ≡ first rest
-pair_met one two rest h = front_met (one ∷ two ∷ []) rest h

@@ -1,5 +1,6 @@
 pub mod FieldDuties
 pub mod Fields
+pub mod Migration
 pub mod Names
 pub mod Projects
 pub mod Tables
