@@ -140,7 +140,7 @@ fn interval_at(
     bounds: &[(u64, u64)],
     g: usize,
 ) -> (u128, u128)
-    requires room { room.now ≡ grid.now.room }
+    requires room { room.now.spec ≡ grid.now.room }
     requires direct { All (λ light. light ≤ 2 * 10 ^ 27) direct.now }
 {
     assert_eq!(rt; direct.len(), grid.len());
@@ -152,7 +152,7 @@ fn interval_at(
 
 // The direct light and the interval at each point of the shelf.
 fn assert_shelf(rt: &impl Abort, shelf: &Grid, room: &Room, direct: &[u128])
-    requires room { room.now ≡ shelf.now.room }
+    requires room { room.now.spec ≡ shelf.now.room }
     requires direct { All (λ light. light ≤ 2 * 10 ^ 27) direct.now }
 {
     assert_eq!(rt; direct.len(), 12);

@@ -1,6 +1,4 @@
 // Walls of their own reflectances, and regions.
-ghost use Rattle.std.specs.Prelude.{◌<◌};
-
 use crate::sample_rooms::{CUBE, OFFICE};
 use flux_system::System;
 use room_patches::{Region, Room, RoomFault, RoomSpec};
@@ -24,11 +22,17 @@ fn region_of(numbers: &Numbers) -> Region {
     }
 }
 
-fn room_with(alloc: Global, spec: RoomSpec, list: &[Numbers]) -> Result<Room, RoomFault> {
+fn room_with(
+    rt: &impl Abort,
+    alloc: Global,
+    spec: RoomSpec,
+    list: &[Numbers],
+) -> Result<Room, RoomFault> {
     let mut regions = Vec::new(alloc);
     for numbers in list {
         regions.push(region_of(numbers))?;
     }
+    assert!(rt; regions.len() <= 16);
     Room::new(alloc, spec, &regions)
 }
 
@@ -47,7 +51,7 @@ fn assert_reflectances(rt: &impl Abort, room: &Room, rows: &[(usize, u32)]) {
 
 #[test]
 fn each_wall_has_a_reflectance_of_its_own(rt: HostRuntime) -> Result<(), Fail> {
-    let room = room_with(rt.alloc(), WALLS, &[])?;
+    let room = room_with(&rt, rt.alloc(), WALLS, &[])?;
     let rows = [
         (0, 200),
         (95, 200),
@@ -121,7 +125,7 @@ fn the_last_region_that_contains_its_centre_gives_a_patch_its_reflectance(
     rt: HostRuntime,
 ) -> Result<(), Fail> {
     for (list, patch, expected) in &REGIONS {
-        let room = room_with(rt.alloc(), WALLS, list)?;
+        let room = room_with(&rt, rt.alloc(), WALLS, list)?;
         assert_reflectances(&rt, &room, &[(*patch, *expected)]);
     }
     Ok(())
@@ -130,7 +134,7 @@ fn the_last_region_that_contains_its_centre_gives_a_patch_its_reflectance(
 #[test]
 fn a_room_says_its_regions(rt: HostRuntime) -> Result<(), Fail> {
     let list = [[2, 0, 1_000, 0, 1_000, 0], [5, 1, 2, 3, 4, 5]];
-    let room = room_with(rt.alloc(), CUBE, &list)?;
+    let room = room_with(&rt, rt.alloc(), CUBE, &list)?;
     assert_eq!(rt;
         room.regions(),
         [region_of(&list[0]), region_of(&list[1])].as_slice()
@@ -150,7 +154,7 @@ fn assert_dark_wall(rt: &impl Abort, system: &System) {
 #[test]
 fn a_dark_wall_of_a_cube_keeps_all_and_passes_on_nothing(rt: HostRuntime) -> Result<(), Fail> {
     let alloc = rt.alloc();
-    let room = room_with(alloc, CUBE, &[[2, 0, 1_000, 0, 1_000, 0]])?;
+    let room = room_with(&rt, alloc, CUBE, &[[2, 0, 1_000, 0, 1_000, 0]])?;
     let shares = all_rows(&rt, alloc, &room)?;
     let reflectance = reflectances(alloc, &room)?;
     let system = System::from_vecs(alloc, reflectance, shares, 5_000_000_000)?;
@@ -201,7 +205,7 @@ const BOX: RoomSpec = RoomSpec {
 #[test]
 fn a_room_is_refused_by_its_first_faulty_region(rt: HostRuntime) -> Result<(), Fail> {
     for (list, at) in &FAULTY_REGIONS {
-        let room = room_with(rt.alloc(), BOX, list);
+        let room = room_with(&rt, rt.alloc(), BOX, list);
         assert_eq!(rt; room.err(), at.map(|at| RoomFault::Region { at }));
     }
     Ok(())
@@ -221,7 +225,7 @@ fn each_wall_is_tested_and_comes_before_regions(rt: HostRuntime) -> Result<(), F
             walls: *walls,
             ..CUBE
         };
-        let room = room_with(rt.alloc(), spec, &[[6, 0, 1, 0, 1, 0]]);
+        let room = room_with(&rt, rt.alloc(), spec, &[[6, 0, 1, 0, 1, 0]]);
         assert_eq!(rt; room.err(), Some(RoomFault::Reflectance));
     }
     Ok(())

@@ -49,7 +49,7 @@ fn check_of(alloc: Global, numbers: Numbers) -> Result<CheckSpec, Fail> {
 }
 
 pub fn laid(alloc: Global, room: &Room, numbers: Numbers) -> Result<Grid, Fail>
-    ensures { IfOk result (λ grid. grid.room ≡ room.now) }
+    ensures { IfOk result (λ grid. grid.room ≡ room.now.spec) }
 {
     let check = check_of(alloc, numbers)?;
     Ok(Grid::new(alloc, room, &check)?)
