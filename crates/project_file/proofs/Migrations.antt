@@ -221,4 +221,4 @@ pub same_project : MigrationKeepsTheProject
 same_project t project one h =
     let said = judged_is (project_duties One t) (project_in One t) project (rw one at h) in
     let same : project_in Two (migrated t) ≡ project = same_project_in t one (top_is_met t one said.1) ∙ sym said.0 in
-    rw (two t one) (judged_ok (project_duties Two (migrated t)) (project_in Two (migrated t)) (all_duties_met t one said.1) ∙ ap Ok same)
+    (two t one, rw (two t one) (judged_ok (project_duties Two (migrated t)) (project_in Two (migrated t)) (all_duties_met t one said.1) ∙ ap Ok same))

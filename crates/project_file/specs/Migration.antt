@@ -2,7 +2,7 @@
 use Rattle.std.specs.Prelude.{◌≡◌, ℕ, pos, if◌then◌else◌, List, codes, Some, Ok}
 use Rattle.std.specs.Str.{bytes_eq}
 use Rattle.toml.specs.Data.{Data, integer, array, table, no_items, item, Members, no_members, member}
-use Rattle.project_file.specs.declared.versions.Version.TheVariants.{One}
+use Rattle.project_file.specs.declared.versions.Version.TheVariants.{One, Two}
 use Rattle.project_file.specs.Versions.{version_in}
 use Rattle.project_file.specs.Projects.{Project, project_of_tree}
 
@@ -24,6 +24,6 @@ migrated_room value = value
 abbrev pub migrated : Members → Members
 migrated t = with_value (codes "version") (λ _. integer (pos 2)) (with_value (codes "room") migrated_room t)
 
--- migration keeps the project: what a file of version 1 says, the file of version 2 that stands for it says too
+-- migration keeps the project: the file that stands for one of version 1 has version 2, and says what that one says
 abbrev pub MigrationKeepsTheProject : Type 0
-MigrationKeepsTheProject = (t : Members) (project : Project) → version_in t ≡ Some One → project_of_tree (Some t) ≡ Ok project → project_of_tree (Some (migrated t)) ≡ Ok project
+MigrationKeepsTheProject = (t : Members) (project : Project) → version_in t ≡ Some One → project_of_tree (Some t) ≡ Ok project → (version_in (migrated t) ≡ Some Two) × (project_of_tree (Some (migrated t)) ≡ Ok project)
