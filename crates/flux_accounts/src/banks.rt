@@ -18,7 +18,7 @@ use crate::seats::{Desk, Given, Pass, Seat, Take};
 use atomic_table::{Closed, Table};
 use flux_ledger::{Amounts, Ledger};
 use flux_system::System;
-use shot_core::{Hand, add_amounts};
+use shot_core::{BatchHand, add_amounts};
 use std::alloc::{AllocError, Global};
 use std::marker::Model;
 use std::snapshot::Snapshot;
@@ -104,7 +104,7 @@ impl Bank {
         let n = system.len();
         let mut all = Vec::new(alloc);
         for number in 0..seats {
-            let hand = Hand::new(alloc, n)?;
+            let hand = BatchHand::new(alloc, n)?;
             let taken = Amounts::from_vec(Vec::from_elem(alloc, 0, n)?);
             let seat = self.hire(desk, number, hand, taken);
             all.push(seat)?;
@@ -113,7 +113,7 @@ impl Bank {
     }
 
     // Hires a seat, over a hand and a list with nothing in them.
-    fn hire(&self, desk: &mut Desk, number: u32, hand: Hand, taken: Amounts) -> Seat
+    fn hire(&self, desk: &mut Desk, number: u32, hand: BatchHand, taken: Amounts) -> Seat
         requires desk { IsDeskOf self.now desk.old }
         requires room { desk.old.history.account.parts + desk.old.history.account.out < 65 }
         requires hand { (hand.amounts ≡ nothing self.now.system) × (hand.fractions ≡ nothing self.now.system) }
@@ -207,7 +207,7 @@ impl Bank {
         ensures some { IfSome result (λ given. (given.amount ≡ hand_at target seat.old.history.account) × ((0 < given.amount) × (given.amount ≤ given.after))) }
         ensures step { IfSome result (λ given. seat.new ≡ record seat.old { history = after_giving seat.old.history target given.after }) }
     {
-        let amount = seat.hand.amounts()[target];
+        let amount = seat.hand.amount(target);
         if amount == 0 {
             return None;
         }
@@ -239,6 +239,7 @@ impl Bank {
             pass,
         } = seat;
         add_amounts(&mut desk.taken, taken.as_slice());
+        let hand = hand.into_hand();
         add_amounts(&mut desk.err, hand.fractions());
         desk.parts += 1;
         desk.wins += wins;

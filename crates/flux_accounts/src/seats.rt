@@ -3,7 +3,7 @@ ghost use Rattle.std.specs.Prelude.{◌≡◌};
 
 use crate::histories::History;
 use flux_ledger::Amounts;
-use shot_core::Hand;
+use shot_core::BatchHand;
 use std::marker::Model;
 
 pub(crate) type Pass = atomic_table::Seat<(), History>;
@@ -12,7 +12,7 @@ pub(crate) type Pass = atomic_table::Seat<(), History>;
 #[derive(Drop)]
 pub struct Seat {
     pub(crate) number: u32,
-    pub(crate) hand: Hand,
+    pub(crate) hand: BatchHand,
     pub(crate) taken: Amounts,
     pub(crate) wins: u64,
     pub(crate) pass: Pass,

@@ -1,14 +1,14 @@
 -- Rows without zeros stand for the shares that they were made of.
 use Rattle.std.proofs.Common.{◌≡◌, ℕ, zero, suc, ◌+◌, ◌*◌, ◌<◌, ◌≤◌, List, [], ◌∷◌, ◌++◌, length, get_or, take, drop, map, refl, sym, ap, subst, ◌∙◌, arith}
 use Rattle.std.specs.List.{flat_map, range_with_len}
-use Rattle.std.proofs.lemmas.List.{map-id, append-nil, take_all, drop_all, take-append-drop, take-take, drop-take, length-take, length-drop, get_or-take, get_or-drop}
+use Rattle.std.proofs.lemmas.List.{map-id, append-nil, append_assoc, take_all, drop_all, take-append-drop, take-take, drop-take, length-take, length-drop, get_or-take, get_or-drop}
 use Rattle.std.proofs.lemmas.List.FromFn.{length-map-range_with_len, get_or-map-range_with_len, map-range_with_len_more, fill_by_all}
 use Rattle.std.proofs.lemmas.List.Concat.{flat_map-append}
 use Rattle.std.proofs.lemmas.List.Folds.{flat_map-map}
 use Rattle.flux_system.specs.declared.entries.Entry.{Entry}
 use Rattle.flux_system.specs.System.{FluxSystem, patches, share, share_row}
 use Rattle.std.specs.Prelude.{slice_index}
-use Rattle.flux_system.specs.Entries.{entry_of, entries_below, row_entries, column_entries, all_rows, all_columns}
+use Rattle.flux_system.specs.Entries.{entry_of, entries_below, row_entries, column_entries, all_rows}
 use Rattle.flux_system.specs.Shapes.{share_in, shares_in_rows}
 use Rattle.flux_system.proofs.WithoutZeros.{share_in-below, entries-same}
 
@@ -74,21 +74,34 @@ row-entries s i row is =
     let long = lists-length (patches s) (share s i) row is in
     ap (λ (n : ℕ). entries_below n (slice_index row)) long ∙ entries-same (patches s) (slice_index row) (share s i) (λ j h. list-at (patches s) (share s i) row is j 0 h)
 
--- the columns of the first rows, with one row more
-pub columns-more : (s : FluxSystem) (i : ℕ) (row : List ℕ) (before : List (List Entry)) → row ≡ share_row s i
-    → before ≡ map (λ j. entries_below i (λ k. share s k j)) (range_with_len 0 (patches s))
-    → map (λ j. get_or before j [] ++ entry_of i (slice_index row j)) (range_with_len 0 (length row)) ≡ map (λ j. entries_below (i + 1) (λ k. share s k j)) (range_with_len 0 (patches s))
-columns-more s i row before is before_is =
+-- some columns of the first rows, with one row more
+pub columns-more : (shares : ℕ → ℕ → ℕ) (w i : ℕ) (row : List ℕ) (before : List (List Entry)) → row ≡ map (shares i) (range_with_len 0 w)
+    → before ≡ map (λ j. entries_below i (λ k. shares k j)) (range_with_len 0 w)
+    → map (λ j. get_or before j [] ++ entry_of i (slice_index row j)) (range_with_len 0 (length row)) ≡ map (λ j. entries_below (i + 1) (λ k. shares k j)) (range_with_len 0 w)
+columns-more shares w i row before is before_is =
     let next : suc i ≡ i + 1 = omega arith in
-    let more = range-same (patches s) (λ j. get_or before j [] ++ entry_of i (slice_index row j)) (λ j. entries_below (suc i) (λ k. share s k j))
-    (λ j h. (λ k. list-at (patches s) _ before before_is j [] h k ++ entry_of i (list-at (patches s) (share s i) row is j 0 h k))) in
-    ap (λ (n : ℕ). map (λ j. get_or before j [] ++ entry_of i (slice_index row j)) (range_with_len 0 n)) (lists-length (patches s) (share s i) row is)
-    ∙ (more ∙ ap (λ (m : ℕ). map (λ j. entries_below m (λ k. share s k j)) (range_with_len 0 (patches s))) next)
+    let more = range-same w (λ j. get_or before j [] ++ entry_of i (slice_index row j)) (λ j. entries_below (suc i) (λ k. shares k j))
+    (λ j h. (λ k. list-at w _ before before_is j [] h k ++ entry_of i (list-at w (shares i) row is j 0 h k))) in
+    ap (λ (n : ℕ). map (λ j. get_or before j [] ++ entry_of i (slice_index row j)) (range_with_len 0 n)) (lists-length w (shares i) row is)
+    ∙ (more ∙ ap (λ (m : ℕ). map (λ j. entries_below m (λ k. shares k j)) (range_with_len 0 w)) next)
 
--- all rows are done
-pub columns-done : (s : FluxSystem) (i : ℕ) (columns : List (List Entry)) → i ≡ patches s → columns ≡ map (λ j. entries_below i (λ k. share s k j)) (range_with_len 0 (patches s)) → columns ≡ all_columns s
+-- the values from one place on, with those that follow
+pub joined : {X : Type 0} (f g : ℕ → X) (a k b w : ℕ) → ((j : ℕ) → g (b + j) ≡ f (a + k + j)) → map f (range_with_len a k) ++ map g (range_with_len b w) ≡ map f (range_with_len a (k + w))
+joined f g a k b zero same = append-nil (map f (range_with_len a k)) ∙ ap (λ (m : ℕ). map f (range_with_len a m)) (omega arith)
+joined {X = X} f g a k b (suc w) same =
+    let next : w + 1 ≡ suc w = omega arith in
+    let step : k + w + 1 ≡ k + suc w = omega arith in
+    ap (λ (m : ℕ). map f (range_with_len a k) ++ map g (range_with_len b m)) (sym next)
+    ∙ (ap (λ (xs : List X). map f (range_with_len a k) ++ xs) (map-range_with_len_more g b w (b + w) refl)
+    ∙ (sym (append_assoc (map f (range_with_len a k)) (map g (range_with_len b w)) (g (b + w) ∷ []))
+    ∙ ((λ q. joined f g a k b w same q ++ same w q ∷ [])
+    ∙ (sym (map-range_with_len_more f a (k + w) (a + k + w) (omega arith)) ∙ ap (λ (m : ℕ). map f (range_with_len a m)) step))))
+
+-- the columns so far, with those of a group
+pub columns-joined : (s : FluxSystem) (first done more : ℕ)
+    → map (column_entries s) (range_with_len first done) ++ map (λ j. entries_below (patches s) (λ i. share s i (first + done + j))) (range_with_len 0 more) ≡ map (column_entries s) (range_with_len first (done + more))
 unfolding column_entries
-columns-done s i columns end is = is ∙ ap (λ (m : ℕ). map (λ j. entries_below m (λ k. share s k j)) (range_with_len 0 (patches s))) end
+columns-joined s first done more = joined (column_entries s) (λ j. entries_below (patches s) (λ i. share s i (first + done + j))) first done 0 more (λ j. ap (λ (k : ℕ). entries_below (patches s) (λ i. share s i (first + done + k))) (omega arith))
 
 -- what a part that was lent leaves in the whole, where it is the whole
 pub all_written : {X : Type 0} (len : ℕ) (new old : List X) → length new ≡ length old → length old ≡ len → take len (new ++ drop (length new) old) ≡ new

@@ -3,12 +3,19 @@ use Rattle.std.specs.Prelude.{◌≡◌, ℕ, ◌==◌, if◌then◌else◌, Lis
 use Rattle.std.specs.List.{sum_by, flat_map, range_with_len}
 use Rattle.flux_system.specs.declared.entries.Entry.{Entry}
 use Rattle.flux_system.specs.System.{FluxSystem, kept_parts, least_keep}
-use Rattle.flux_system.specs.Entries.{all_rows, all_columns}
+use Rattle.flux_system.specs.declared.lists.Side.{Side}
+use Rattle.flux_system.specs.declared.lists.Side.TheVariants.{Rows, Columns}
+use Rattle.flux_system.specs.Entries.{row_entries, column_entries, all_rows, all_columns}
 use Rattle.flux_system.specs.Validity.{IsSystem}
 
 -- the numbers of a system whose threshold is not asked for
 abbrev pub system_without_threshold : List ℕ → List ℕ → FluxSystem
 system_without_threshold reflectance shares = record { threshold = 0; reflectance = reflectance; shares = shares }
+
+-- a row or a column
+abbrev pub list_of : Side → FluxSystem → ℕ → List Entry
+list_of Rows s i = row_entries s i
+list_of Columns s j = column_entries s j
 
 -- the share that some entries have for a patch
 abbrev pub share_in : List Entry → ℕ → ℕ

@@ -1,9 +1,9 @@
 // The tests that a flux system passes, and what its patches keep, in one pass over the shares.
-ghost use Rattle.std.specs.Prelude.{◌≡◌, ℕ, ◌<◌, ◌≤◌, ◌*◌, ◌+◌, [], IfOk, length, slice_index, map, sum};
+ghost use Rattle.std.specs.Prelude.{◌≡◌, ℕ, ◌<◌, ◌≤◌, ◌*◌, ◌+◌, [], IfOk, OnOk, length, slice_index, map, sum};
 ghost use Rattle.duties.specs.Duties.{first, each, Answers};
 ghost use Rattle.std.specs.List.{range_with_len};
 ghost use Rattle.flux_system.specs.System.{kept_parts};
-ghost use Rattle.flux_system.specs.Validity.{system_duties, reflectance_duty, row_duty};
+ghost use Rattle.flux_system.specs.Validity.{IsSystem, system_duties, reflectance_duty, row_duty};
 ghost use Rattle.flux_system.specs.Shapes.{system_without_threshold};
 
 use crate::{MOST_PATCHES, SystemFault};
@@ -26,6 +26,7 @@ pub(crate) fn kept_parts(
     threshold: u64,
 ) -> Result<Vec<u64>, SystemFault>
     ensures kept { IfOk result (λ kept. kept.items ≡ kept_parts (record { threshold = threshold; reflectance = reflectance.now; shares = shares.now })) }
+    ensures valid { OnOk result (IsSystem (record { threshold = threshold; reflectance = reflectance.now; shares = shares.now })) }
     ensures answer { Answers SystemFault.Memory (first (system_duties (record { threshold = threshold; reflectance = reflectance.now; shares = shares.now }))) result }
 {
     let n = reflectance.len();

@@ -3,22 +3,30 @@ ghost use Rattle.std.specs.Prelude.{◌≡◌, ◌<◌, ◌≤◌, ◌*◌, ◌^
 ghost use Rattle.duties.specs.Duties.{first, judged, Answers};
 ghost use Rattle.flux_system.specs.Sums.{least_below};
 ghost use Rattle.flux_system.specs.System.{patches, share, coefficient, kept_parts, keep, least_keep, bound_of_takes};
-ghost use Rattle.flux_system.specs.Entries.{row_entries, column_entries};
+ghost use Rattle.flux_system.specs.Entries.{row_entries, column_entries, all_rows, all_columns};
 ghost use Rattle.flux_system.specs.Validity.{IsSystem, system_duties};
 ghost use Rattle.flux_system.specs.Limits.{limit_duties};
+ghost use Rattle.flux_system.specs.Shapes.{system_without_threshold};
 
 use crate::entries::Entries;
 use crate::kept::{SCALE, kept_parts};
-use crate::lists::{columns_of, rows_of};
+use crate::lists::{Side, lists_from, lists_in_threads};
 use crate::{Entry, LimitFault, MOST_PATCHES, SystemFault};
 use std::alloc::{AllocError, Global};
 use std::marker::Model;
+use std::thread::Threads;
 
 /// The most direct flux over all patches, in nanolumens.
 const MOST_FLUX: u128 = 10_000_000_000_000_000;
 
 /// The highest bound of takes.
 const MOST_TAKES: u128 = 100_000_000;
+
+/// From so many patches on, threads save more than they cost.
+const LEAST_SHARED: usize = 500;
+
+/// Lists are halved so often, and each half is made in a thread of its own.
+const HALVINGS: u32 = 2;
 
 /// A valid flux system. Contracts see its threshold, its reflectances and its shares.
 #[derive(Debug, Drop)]
@@ -57,8 +65,11 @@ impl System {
         ensures answer { Answers SystemFault.Memory (first (system_duties (record { threshold = threshold; reflectance = reflectance.now; shares = shares.now }))) result }
     {
         let kept = kept_parts(alloc, reflectance, shares, threshold)?;
+        let n = reflectance.len();
+        let rows = lists_from(alloc, Side::Rows, reflectance, shares, 0, n)?;
+        let columns = lists_from(alloc, Side::Columns, reflectance, shares, 0, n)?;
         let reflectance = Vec::from_slice(alloc, reflectance)?;
-        Ok(System::of_parts(alloc, threshold, reflectance, shares, kept)?)
+        Ok(System::of_parts(threshold, reflectance, shares, rows, columns, kept))
     }
 
     /// The same of vectors: the reflectances are moved and not copied.
@@ -72,32 +83,102 @@ impl System {
         ensures answer { Answers SystemFault.Memory (first (system_duties (record { threshold = threshold; reflectance = reflectance.items; shares = shares.items }))) result }
     {
         let kept = kept_parts(alloc, reflectance.as_slice(), shares.as_slice(), threshold)?;
-        Ok(System::of_parts(alloc, threshold, reflectance, shares.as_slice(), kept)?)
+        let n = reflectance.len();
+        let rows = lists_from(
+            alloc,
+            Side::Rows,
+            reflectance.as_slice(),
+            shares.as_slice(),
+            0,
+            n,
+        )?;
+        let columns = lists_from(
+            alloc,
+            Side::Columns,
+            reflectance.as_slice(),
+            shares.as_slice(),
+            0,
+            n,
+        )?;
+        Ok(System::of_parts(
+            threshold,
+            reflectance,
+            shares.as_slice(),
+            rows,
+            columns,
+            kept,
+        ))
     }
 
-    // The system of numbers that passed the tests, beside what each patch keeps.
-    fn of_parts(
+    /// The same of vectors, in threads where there are many patches.
+    pub fn from_vecs_in_threads(
+        rt: &(impl Threads + Sync),
         alloc: Global,
+        reflectance: Vec<u32>,
+        shares: Vec<u32>,
+        threshold: u64,
+    ) -> Result<System, SystemFault>
+        ensures system { IfOk result (λ s. s ≡ record { threshold = threshold; reflectance = reflectance.items; shares = shares.items }) }
+        ensures answer { Answers SystemFault.Memory (first (system_duties (record { threshold = threshold; reflectance = reflectance.items; shares = shares.items }))) result }
+    {
+        let kept = kept_parts(alloc, reflectance.as_slice(), shares.as_slice(), threshold)?;
+        let n = reflectance.len();
+        let depth = if n < LEAST_SHARED { 0 } else { HALVINGS };
+        let rows = lists_in_threads(
+            rt,
+            alloc,
+            Side::Rows,
+            reflectance.as_slice(),
+            shares.as_slice(),
+            0,
+            n,
+            depth,
+        )?;
+        let columns = lists_in_threads(
+            rt,
+            alloc,
+            Side::Columns,
+            reflectance.as_slice(),
+            shares.as_slice(),
+            0,
+            n,
+            depth,
+        )?;
+        Ok(System::of_parts(
+            threshold,
+            reflectance,
+            shares.as_slice(),
+            rows,
+            columns,
+            kept,
+        ))
+    }
+
+    // The system of numbers that passed the tests, with their lists and what each patch keeps.
+    fn of_parts(
         threshold: u64,
         reflectance: Vec<u32>,
         shares: &[u32],
+        rows: Vec<Entries>,
+        columns: Vec<Entries>,
         kept: Vec<u64>,
-    ) -> Result<System, AllocError>
+    ) -> System
         requires valid { IsSystem (record { threshold = threshold; reflectance = reflectance.items; shares = shares.now }) }
+        requires rows { rows.items ≡ all_rows (system_without_threshold reflectance.items shares.now) }
+        requires columns { columns.items ≡ all_columns (system_without_threshold reflectance.items shares.now) }
         requires kept { kept.items ≡ kept_parts (record { threshold = threshold; reflectance = reflectance.items; shares = shares.now }) }
-        ensures { IfOk result (λ s. s ≡ record { threshold = threshold; reflectance = reflectance.items; shares = shares.now }) }
+        ensures { result ≡ record { threshold = threshold; reflectance = reflectance.items; shares = shares.now } }
     {
-        let rows = rows_of(alloc, reflectance.as_slice(), shares)?;
-        let columns = columns_of(alloc, reflectance.as_slice(), shares, rows.as_slice())?;
+        prove_eq!(shares.len(), reflectance.len() * reflectance.len());
         let least = least_of(kept.as_slice());
-        Ok(System {
+        System {
             threshold,
             reflectance,
             rows,
             columns,
             kept,
             least,
-        })
+        }
     }
 
     /// The number of patches, 1 to `MOST_PATCHES`.

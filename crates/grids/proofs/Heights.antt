@@ -10,7 +10,6 @@ pub IsPatch-square_metre_at : (point : List ℤ) → IsPlace point → IsPatch (
 IsPatch-square_metre_at point place = record {
   centre = place;
   axis = omega arith;
-  positive = omega arith;
   limited = omega arith;
   reflectance = omega arith;
 }

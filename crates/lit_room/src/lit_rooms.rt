@@ -9,7 +9,7 @@ ghost use Rattle.lit_room.specs.LitRooms.{Lighting, fixtures_of, system_of, flux
 ghost use Rattle.lit_room.specs.declared.faults.LightFault.TheVariants as fault;
 
 use crate::LightFault;
-use crate::parts::{lay_grids, light_patches, make_room, make_system, place_all, test_limits};
+use crate::parts::{lay_grids, light_room, make_room, place_all, test_limits};
 use fixtures::Fixture;
 use flux_system::System;
 use grids::Grid;
@@ -66,12 +66,15 @@ impl LitRoom {
             Ok(fixtures) => fixtures,
             Err(fault) => return Err(fault),
         };
-        let flux = match light_patches(alloc, &room, &fixtures, &webs) {
-            Ok(flux) => flux,
-            Err(fault) => return Err(fault),
-        };
-        let system = match make_system(rt, alloc, &room, project.threshold()) {
-            Ok(system) => system,
+        let (flux, system) = match light_room(
+            rt,
+            alloc,
+            &room,
+            &fixtures,
+            &webs,
+            project.threshold(),
+        ) {
+            Ok(parts) => parts,
             Err(fault) => return Err(fault),
         };
         match test_limits(&system, &flux) {

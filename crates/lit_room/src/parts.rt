@@ -1,6 +1,7 @@
 // The parts of a lit room, each made once from those before it.
 ghost use Rattle.std.specs.Prelude.{◌≡◌, ◌≢◌, ◌≤◌, ◌<◌, ◌^◌, Some, All, length, map, IfOk, IfErr};
 ghost use Rattle.std.specs.Option.{option_map};
+ghost use Rattle.std.specs.Thread.{IsSync};
 ghost use Rattle.direct_flux.specs.DirectFlux.{direct_flux};
 ghost use Rattle.duties.specs.Duties.{first, Answers};
 ghost use Rattle.grids.specs.Grids.{grid_of};
@@ -21,6 +22,7 @@ use fixtures::{Fixture, FixtureFault, FixtureSpec, place};
 use flux_system::{LimitFault, System};
 use grids::{Grid, GridFault};
 use photo_web::Web;
+use rayon::join;
 use room_patches::{Region, Room, RoomFault, RoomSpec};
 use std::alloc::Global;
 use std::thread::Threads;
@@ -61,8 +63,8 @@ pub(crate) fn place_all(
     }
 }
 
-/// The direct flux of each patch. One that is too large is past the first limit, whatever the system is.
-pub(crate) fn light_patches(
+// The direct flux of each patch. One that is too large is past the first limit, whatever the system is.
+fn light_patches(
     alloc: Global,
     room: &Room,
     fixtures: &[Fixture],
@@ -83,8 +85,8 @@ pub(crate) fn light_patches(
     }
 }
 
-/// The flux system of a room, which is always accepted. Its shares are made in threads.
-pub(crate) fn make_system(
+// The flux system of a room, which is always accepted. Its shares are made in threads.
+fn make_system(
     rt: &(impl Threads + Sync),
     alloc: Global,
     room: &Room,
@@ -101,10 +103,52 @@ pub(crate) fn make_system(
     let Ok(reflectance) = reflectances(alloc, room) else {
         return Err(LightFault::Memory);
     };
-    match System::from_vecs(alloc, reflectance, shares, threshold) {
+    match System::from_vecs_in_threads(rt, alloc, reflectance, shares, threshold) {
         Ok(system) => Ok(system),
         Err(_) => Err(LightFault::Memory),
     }
+}
+
+/// The direct flux of each patch and the flux system of the room, side by side. Only the flux can be refused.
+pub(crate) fn light_room<R: Threads + Sync>(
+    rt: &R,
+    alloc: Global,
+    room: &Room,
+    fixtures: &[Fixture],
+    webs: &[Web],
+    threshold: u64,
+) -> Result<(Vec<u64>, System), LightFault>
+    requires placed { All IsPlaced fixtures.now }
+    requires webs { All (λ fixture. fixture.web < length webs.now) fixtures.now }
+    requires few { length fixtures.now ≤ 256 }
+    requires some { 1 ≤ threshold }
+    requires limited { threshold ≤ 10 ^ 16 }
+    ensures flux { IfOk result (λ parts. parts.0.items ≡ direct_flux room.now fixtures.now webs.now) }
+    ensures system { IfOk result (λ parts. parts.1 ≡ room_system room.now threshold) }
+    ensures fault { IfErr result (λ answer. answer ≢ fault.Memory → (system : FluxSystem) → option_map fault.Limits (first (limit_duties system (direct_flux room.now fixtures.now webs.now))) ≡ Some answer) }
+{
+    let (flux, system) = join(
+        rt,
+        || -> Result<Vec<u64>, LightFault>
+            requires { All IsPlaced fixtures.now × All (λ fixture. fixture.web < length webs.now) fixtures.now × (length fixtures.now ≤ 256) }
+            ensures flux { IfOk result (λ flux. flux.items ≡ direct_flux room.entry.now fixtures.entry.now webs.entry.now) }
+            ensures fault { IfErr result (λ answer. answer ≢ fault.Memory → (system : FluxSystem) → option_map fault.Limits (first (limit_duties system (direct_flux room.entry.now fixtures.entry.now webs.entry.now))) ≡ Some answer) }
+        { light_patches(alloc, room, fixtures, webs) },
+        || -> Result<System, LightFault>
+            requires { IsSync R.row × (1 ≤ threshold) × (threshold ≤ 10 ^ 16) }
+            ensures system { IfOk result (λ system. system ≡ room_system room.entry.now threshold) }
+            ensures fault { IfErr result (λ answer. answer ≡ fault.Memory) }
+        { make_system(rt, alloc, room, threshold) },
+    );
+    let flux = match flux {
+        Ok(flux) => flux,
+        Err(fault) => return Err(fault),
+    };
+    let system = match system {
+        Ok(system) => system,
+        Err(fault) => return Err(fault),
+    };
+    Ok((flux, system))
 }
 
 /// Whether the direct flux is within the limits of the system.

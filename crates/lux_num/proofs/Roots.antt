@@ -62,14 +62,6 @@ reached x root some h =
     let times : root * root ≤ x / root * root = mul-le-mul_right root (omega arith) in
     omega arith
 
--- a root of a number of 128 bits has 64
-pub root_fits : (x root : ℕ) → x < 2 ^ 128 → root * root ≤ x → root < 2 ^ 64
-root_fits x root fits h =
-    elim (cases_lt root (2 ^ 64)) [
-      | inl low ↦ low
-      | inr high ↦ let squares : 2 ^ 64 * 2 ^ 64 ≤ root * root = square_mono (2 ^ 64) root high in absurd (omega arith)
-    ]
-
 -- the first step starts above the root
 pub starts_above : (x log : ℕ) → x < 2 * 2 ^ log → x < (2 ^ (log / 2 + 1) + 1) * (2 ^ (log / 2 + 1) + 1)
 starts_above x log h =
@@ -93,11 +85,11 @@ inexact_up n d some e =
     div-eq_of_lt-le d (omega arith) (omega arith)
 
 -- the number that the first step starts from
-pub first_step : (log : ℕ) → log < 128 → (1 * 2 ^ (log / 2 + 1) % 2 ^ 128 ≡ 2 ^ (log / 2 + 1)) × (0 < 2 ^ (log / 2 + 1)) × (2 ^ (log / 2 + 1) ≤ 2 ^ 64)
+pub first_step : (log : ℕ) → log < 64 → (1 * 2 ^ (log / 2 + 1) % 2 ^ 64 ≡ 2 ^ (log / 2 + 1)) × (0 < 2 ^ (log / 2 + 1)) × (2 ^ (log / 2 + 1) ≤ 2 ^ 32)
 first_step log h =
-    let small : 2 ^ (log / 2 + 1) ≤ 2 ^ 64 = pow-le-pow_right {n = 2} (lit< tt) {i = log / 2 + 1} {j = 64} (omega arith) in
+    let small : 2 ^ (log / 2 + 1) ≤ 2 ^ 32 = pow-le-pow_right {n = 2} (lit< tt) {i = log / 2 + 1} {j = 32} (omega arith) in
     let one : 1 * 2 ^ (log / 2 + 1) ≡ 2 ^ (log / 2 + 1) = omega arith in
-    let room : 2 ^ 64 < 2 ^ 128 = lit< tt in
+    let room : 2 ^ 32 < 2 ^ 64 = lit< tt in
     (rw one (mod-eq_of_lt (omega arith)), pow_pos (log / 2 + 1), small)
 
 pub up_is : (a b d q : ℕ) → a * b < 2 ^ 128 → 0 < d → q < 2 ^ 128 → (a * b + (d - 1)) / d ≡ q → Some q ≡ quotient_up a b d

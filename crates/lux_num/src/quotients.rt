@@ -23,8 +23,20 @@ pub fn mul_div_ceil(a: u128, b: u128, divisor: u128) -> Option<u128>
     }
 }
 
-/// The greatest whole number whose square is at most `x`, by Newton's steps from above.
+/// The greatest whole number whose square is at most `x`.
 pub fn isqrt(x: u128) -> u64
+    ensures value { result ≡ root x }
+    ensures square { result * result ≤ x }
+    ensures next_square { x < (result + 1) * (result + 1) }
+{
+    match u64::try_from(x) {
+        Ok(small) => root_by_steps(small),
+        Err(_) => x.isqrt() as u64,
+    }
+}
+
+// The same of a number of 64 bits, by Newton's steps from above.
+fn root_by_steps(x: u64) -> u64
     ensures value { result ≡ root x }
     ensures square { result * result ≤ x }
     ensures next_square { x < (result + 1) * (result + 1) }
@@ -32,11 +44,11 @@ pub fn isqrt(x: u128) -> u64
     if x == 0 {
         return 0;
     }
-    let mut root = 1u128 << (x.ilog2() / 2 + 1);
+    let mut root = 1u64 << (x.ilog2() / 2 + 1);
     loop {
         let next = (root + x / root) / 2;
         if next >= root {
-            return root as u64;
+            return root;
         }
         root = next;
     }

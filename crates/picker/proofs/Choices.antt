@@ -1,11 +1,12 @@
 -- What the rules of picking choose.
-use Rattle.std.proofs.Common.{◌≡◌, ℕ, ◌+◌, ◌-◌, ◌*◌, ◌%◌, ◌<◌, ◌≤◌, ◌&&◌, cond, List, drop, take, Bool, true, false, eqb, ltb, leb, Option, None, Some, length, get_or, inl, inr, refl, sym, ap, subst, ◌∙◌, arith}
+use Rattle.std.proofs.Common.{◌≡◌, ℕ, ◌+◌, ◌-◌, ◌*◌, ◌/◌, ◌%◌, ◌<◌, ◌≤◌, ◌&&◌, cond, List, drop, take, Bool, true, false, eqb, ltb, leb, Option, None, Some, length, get_or, inl, inr, refl, sym, ap, subst, ◌∙◌, arith}
 use Rattle.std.specs.Bool.{then_some}
 use Rattle.std.specs.List.{position, position_or_len}
 use Rattle.std.specs.Option.{option_map, option_or, MatchOption}
 use Rattle.std.proofs.lemmas.Bool.{cases_lt, lt-ltb, eq-eqb, ne_eqb, and_from, and_left, and_right, cond-true, cond-false}
 use Rattle.std.proofs.lemmas.Bool.Decides.{nat_tests}
-use Rattle.std.proofs.lemmas.Nat.{mod_below, mod-mul-add}
+use Rattle.std.proofs.Math.Nat.{mul-le-mul_right}
+use Rattle.std.proofs.lemmas.Nat.{mod_below, mod-mul-add, div-add-mod'}
 use Rattle.std.proofs.lemmas.List.{get_or-drop, get_or-take, get_or_append_left, get_or-append_right, length-append, length-drop, length-take-le}
 use Rattle.std.proofs.lemmas.List.FromFn.{get_or-range_with_len, length-range_with_len}
 use Rattle.std.proofs.lemmas.List.Sums.{position_or_len_is, fails_before_first, passes_at_first}
@@ -60,6 +61,16 @@ reached t v h = grind (arith, nat_tests)
 
 short_of : (t v : ℕ) → reaches t v ≡ false → v < t
 short_of t v h = grind (arith, nat_tests)
+
+-- between two places of a stripe there is none of it
+pub next_in_stripe : (m k place i : ℕ) → place % m ≡ k → i % m ≡ k → place < i → place + m ≤ i
+next_in_stripe m k place i of_place of_i after =
+    let first : place / m * m + place % m ≡ place = div-add-mod' place m in
+    let second : i / m * m + i % m ≡ i = div-add-mod' i m in
+    elim (cases_lt (place / m) (i / m)) [
+      | inl less ↦ let more : (place / m + 1) * m ≤ i / m * m = mul-le-mul_right m (omega arith) in omega arith
+      | inr not ↦ let same : i / m * m ≤ place / m * m = mul-le-mul_right m not in absurd (omega arith)
+    ]
 
 -- the first that reaches it is a pick
 pub IsPick-first_reaching : (xs : List ℕ) (t : ℕ) → IsPick xs t (first_reaching xs t)

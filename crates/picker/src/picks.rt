@@ -8,14 +8,15 @@ pub fn greatest(values: &[u64], threshold: u64) -> Option<usize>
     ensures place { result ≡ greatest_pick values.now threshold }
     ensures pick { IsPick values.now threshold result }
 {
+    let mut most = *values.first()?;
     let mut best = 0;
     for (place, value) in values.iter().enumerate() {
-        if *value > values[best] {
+        if *value > most {
+            most = *value;
             best = place;
         }
     }
-    let value = *values.get(best)?;
-    (value >= threshold).then_some(best)
+    (most >= threshold).then_some(best)
 }
 
 /// The first place whose value reaches the threshold, from place `offset` modulo the length on, round past the end to
@@ -51,14 +52,19 @@ pub fn striped(k: usize, m: usize, values: &[u64], threshold: u64) -> Option<usi
     ensures place { result ≡ striped_pick k m values.now threshold }
     ensures pick { IsPick values.now threshold result }
 {
-    let mut other = None;
-    for (place, value) in values.iter().enumerate() {
-        if *value >= threshold {
-            if place % m == k {
-                return Some(place);
-            }
-            other = other.or(Some(place));
+    let mut place = k;
+    while place < values.len() {
+        if values[place] >= threshold {
+            return Some(place);
         }
+        place = place.saturating_add(m);
     }
-    other
+    first_reaching(values, threshold)
+}
+
+// The first place whose value reaches the threshold.
+fn first_reaching(values: &[u64], threshold: u64) -> Option<usize>
+    ensures { result ≡ first_reaching values.now threshold }
+{
+    values.iter().position(|value| *value >= threshold)
 }

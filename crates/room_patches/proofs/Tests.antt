@@ -52,9 +52,12 @@ valid_where_met spec met =
     let reflectances = and_parts _ _ (unless_met _ _ d.0) in
     let ends = and_parts _ _ reflectances.0 in
     record {
-      width = record { long = leb-true _ _ width.0; short = leb-true _ _ width.1; some = leb-true _ _ nx.0; few = leb-true _ _ nx.1 };
-      depth = record { long = leb-true _ _ depth.0; short = leb-true _ _ depth.1; some = leb-true _ _ ny.0; few = leb-true _ _ ny.1 };
-      height = record { long = leb-true _ _ height.0; short = leb-true _ _ height.1; some = leb-true _ _ nz.0; few = leb-true _ _ nz.1 };
+      width = record { short = leb-true _ _ width.1; some = leb-true _ _ nx.0; few = leb-true _ _ nx.1 };
+      depth = record { short = leb-true _ _ depth.1; some = leb-true _ _ ny.0; few = leb-true _ _ ny.1 };
+      height = record { short = leb-true _ _ height.1; some = leb-true _ _ nz.0; few = leb-true _ _ nz.1 };
+      wide = leb-true _ _ width.0;
+      deep = leb-true _ _ depth.0;
+      high = leb-true _ _ height.0;
       few = leb-true _ _ (unless_met _ _ c.0);
       floor = leb-true _ _ ends.0;
       ceiling = leb-true _ _ ends.1;

@@ -6,6 +6,7 @@ use Rattle.std.proofs.lemmas.Int.{ints}
 use Rattle.std.proofs.lemmas.Nat.{mul-le}
 use Rattle.std.proofs.lemmas.List.Elements.{All-nil, All-cons, All-append}
 use Rattle.room_patches.specs.declared.spec.RoomSpec.{RoomSpec}
+use Rattle.room_patches.specs.declared.patch.Patch.{Patch}
 use Rattle.room_patches.specs.declared.surface.Surface.{Surface}
 use Rattle.room_patches.specs.declared.surface.Surface.TheVariants.{Floor, Ceiling, Left, Right, Front, Back}
 use Rattle.room_patches.specs.Cuts.{IsCut}
@@ -46,6 +47,22 @@ module _ (spec : RoomSpec) (valid : IsRoom spec) where
   upward_valid Right = valid.height
   upward_valid Front = valid.height
   upward_valid Back = valid.height
+
+  across_long : (surface : Surface) → 500 ≤ (across spec surface).whole
+  across_long Floor = valid.wide
+  across_long Ceiling = valid.wide
+  across_long Left = valid.deep
+  across_long Right = valid.deep
+  across_long Front = valid.wide
+  across_long Back = valid.wide
+
+  upward_long : (surface : Surface) → 500 ≤ (upward spec surface).whole
+  upward_long Floor = valid.deep
+  upward_long Ceiling = valid.deep
+  upward_long Left = valid.high
+  upward_long Right = valid.high
+  upward_long Front = valid.high
+  upward_long Back = valid.high
 
   wall-valid : (k : ℕ) → slice_index_or spec.walls k 0 ≤ 950
   wall-valid k = each-or (λ wall. wall ≤ 950) spec.walls k 0 valid.walls (omega arith)
@@ -89,23 +106,36 @@ module _ (room : Room) (valid : IsRoom room.spec) (regions : AreRegions room.spe
       record {
         centre = place-valid room.spec valid surface _ _ (middle-le (across room.spec surface) column a in_row) (middle-le (upward room.spec surface) row b in_surface);
         axis = axis-valid room.spec valid surface;
-        positive = mul-le 1 1 _ _ (part-some (across room.spec surface) column a) (part-some (upward room.spec surface) row b);
         limited = mul-le _ _ 100000 100000 (part-le (across room.spec surface) column a in_row) (part-le (upward room.spec surface) row b in_surface);
         reflectance = reflects-within room surface _ _ (reflectance-valid room.spec valid surface) regions;
       }
 
-  surface-valid : (surface : Surface) → All IsPatch (patches_of room surface)
-  unfolding patches_of patch_row
-  surface-valid surface =
-      all-lists IsPatch (patch_row room surface) 0 (upward room.spec surface).parts (upward room.spec surface).parts (omega arith)
-      (λ row in_surface. all-values IsPatch (λ column. patch_at room surface column row) 0 (across room.spec surface).parts (across room.spec surface).parts (omega arith)
-      (λ column in_row. patch-valid surface column row in_row in_surface))
+  area-positive : (surface : Surface) (column row : ℕ) → 1 ≤ (patch_at room surface column row).area
+  unfolding patch_at
+  area-positive surface column row =
+      mul-le 1 1 _ _ (part-some (across room.spec surface) column (across_long room.spec valid surface) (across_valid room.spec valid surface))
+      (part-some (upward room.spec surface) row (upward_long room.spec valid surface) (upward_valid room.spec valid surface))
+
+  -- what holds of each patch of each surface holds of all patches
+  all-patches : (P : Patch → Type 0)
+      → ((surface : Surface) (column row : ℕ) → column < (across room.spec surface).parts → row < (upward room.spec surface).parts → P (patch_at room surface column row))
+      → All P (patches room)
+  unfolding patches patches_of patch_row
+  all-patches P each =
+      All-append P (patches_of room Floor) _ (on Floor)
+      (All-append P (patches_of room Ceiling) _ (on Ceiling)
+      (All-append P (patches_of room Left) _ (on Left)
+      (All-append P (patches_of room Right) _ (on Right)
+      (All-append P (patches_of room Front) _ (on Front) (All-append P (patches_of room Back) _ (on Back) (All-nil P))))))
+    where
+      on : (surface : Surface) → All P (patches_of room surface)
+      on surface =
+          all-lists P (patch_row room surface) 0 (upward room.spec surface).parts (upward room.spec surface).parts (omega arith)
+          (λ row in_surface. all-values P (λ column. patch_at room surface column row) 0 (across room.spec surface).parts (across room.spec surface).parts (omega arith)
+          (λ column in_row. each surface column row in_row in_surface))
 
   pub patches-valid : All IsPatch (patches room)
-  unfolding patches
-  patches-valid =
-      All-append IsPatch (patches_of room Floor) _ (surface-valid Floor)
-      (All-append IsPatch (patches_of room Ceiling) _ (surface-valid Ceiling)
-      (All-append IsPatch (patches_of room Left) _ (surface-valid Left)
-      (All-append IsPatch (patches_of room Right) _ (surface-valid Right)
-      (All-append IsPatch (patches_of room Front) _ (surface-valid Front) (All-append IsPatch (patches_of room Back) _ (surface-valid Back) (All-nil IsPatch))))))
+  patches-valid = all-patches IsPatch patch-valid
+
+  pub areas-positive : All (λ patch. 1 ≤ patch.area) (patches room)
+  areas-positive = all-patches (λ patch. 1 ≤ patch.area) (λ surface column row in_row in_surface. area-positive surface column row)

@@ -2,9 +2,8 @@
 use Rattle.std.specs.Prelude.{ℕ, ◌+◌, ◌-◌, ◌*◌, ◌/◌, ◌≤◌}
 use Rattle.room_patches.specs.declared.cut.Cut.{Cut}
 
--- a length of 500 to 100,000 millimetres in 1 to 64 parts
+-- a length of at most 100,000 millimetres in 1 to 64 parts
 pub record IsCut (cut : Cut) : Type 0 where
-  pub long : 500 ≤ cut.whole
   pub short : cut.whole ≤ 100000
   pub some : 1 ≤ cut.parts
   pub few : cut.parts ≤ 64

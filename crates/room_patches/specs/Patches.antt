@@ -104,10 +104,9 @@ above_zero (negsuc behind) = 0
 unfoldable pub in_front : Patch → List ℤ → ℕ
 in_front patch place = above_zero (distance_before patch place)
 
--- what each patch of a room is known to be
+-- what each patch is known to be
 pub record IsPatch (patch : Patch) : Type 0 where
   pub centre : IsPlace patch.centre
   pub axis : patch.axis ≤ 2
-  pub positive : 1 ≤ patch.area
   pub limited : patch.area ≤ 10 ^ 10
   pub reflectance : patch.reflectance ≤ 950

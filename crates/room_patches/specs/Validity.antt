@@ -18,6 +18,9 @@ pub record IsRoom (spec : RoomSpec) : Type 0 where
   pub width : IsCut (along_x spec)
   pub depth : IsCut (along_y spec)
   pub height : IsCut (along_z spec)
+  pub wide : 500 ≤ spec.width
+  pub deep : 500 ≤ spec.depth
+  pub high : 500 ≤ spec.height
   pub few : length (patches (plain_room spec)) ≤ 4096
   pub floor : spec.floor ≤ 950
   pub ceiling : spec.ceiling ≤ 950

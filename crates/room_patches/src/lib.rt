@@ -6,6 +6,7 @@
 //! their distances in `specs/Places.antt`.
 #![tactic(auto)]
 
+mod box_spec;
 mod checks;
 mod cut;
 mod faults;
@@ -15,6 +16,8 @@ mod room;
 mod spec;
 mod surface;
 
+pub use box_spec::BoxSpec;
+pub use cut::Cut;
 pub use faults::RoomFault;
 pub use patch::{Patch, squared_distance};
 pub use region::Region;

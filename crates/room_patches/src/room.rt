@@ -83,6 +83,7 @@ impl Room {
     pub fn patches(&self) -> &[Patch]
         ensures value { result.now ≡ patches self.now }
         ensures patch { All IsPatch result.now }
+        ensures positive { All (λ patch. 1 ≤ patch.area) result.now }
     {
         self.patches.as_slice()
     }
@@ -92,6 +93,7 @@ impl Room {
         requires { i < length (patches self.now) }
         ensures value { slice_get (patches self.now) i ≡ Some result }
         ensures patch { IsPatch result }
+        ensures positive { 1 ≤ result.area }
     {
         self.patches[i]
     }

@@ -69,6 +69,23 @@ module _ (factor k : ℕ) (row : List Entry) (d : Entry) (inside : k < length ro
       → get_or residual target 0 + amount < 18446744073709551616
   booking_fits amount total amount_is is fits = let come = ap (λ (x : ℕ). factor * x) (rest-share-here row k d inside) in omega arith
 
+-- one product is added to the sum of the entry's patch: it is no more to come
+module _ (factor k : ℕ) (row : List Entry) (d : Entry) (inside : k < length row) (sums : List ℕ) (sum : ℕ) (in_sums : (get_or row k d).patch < length sums) (sum_is : sum ≡ get_or sums (get_or row k d).patch 0 + factor * (get_or row k d).share) where
+  pub added : (j : ℕ) → get_or (set sums (get_or row k d).patch sum) j 0 + factor * share_in (drop (k + 1) row) j ≡ get_or sums j 0 + factor * share_in (drop k row) j
+  added j = dite (ℕ_discrete (get_or row k d).patch j) here there
+    where
+      here : (get_or row k d).patch ≡ j → get_or (set sums (get_or row k d).patch sum) j 0 + factor * share_in (drop (k + 1) row) j ≡ get_or sums j 0 + factor * share_in (drop k row) j
+      here same =
+          let now = get_or-set_same sums (get_or row k d).patch sum 0 in_sums in
+          let come = ap (λ (x : ℕ). factor * x) (rest-share-here row k d inside) in
+          subst (λ (m : ℕ). get_or (set sums (get_or row k d).patch sum) m 0 + factor * share_in (drop (k + 1) row) m ≡ get_or sums m 0 + factor * share_in (drop k row) m) same (omega arith)
+
+      there : ((get_or row k d).patch ≡ j → ⊥) → get_or (set sums (get_or row k d).patch sum) j 0 + factor * share_in (drop (k + 1) row) j ≡ get_or sums j 0 + factor * share_in (drop k row) j
+      there ne =
+          let stays = get_or-set_other sums (get_or row k d).patch j sum 0 (λ e. ne (sym e)) in
+          let come = ap (λ (x : ℕ). factor * x) (rest-share-there row k d j inside ne) in
+          omega arith
+
 -- a factor in two parts is the factor
 pub split_is : (factor fraction f portion p : ℕ) → f ≡ fraction → p ≡ portion → f + (factor / 1000000000 * 1000000000 + factor % 1000000000) * p ≡ fraction + factor * portion
 split_is factor fraction f portion p f_is p_is = let whole : factor / 1000000000 * 1000000000 + factor % 1000000000 ≡ factor = omega arith in λ k. f_is k + whole k * p_is k

@@ -1,5 +1,6 @@
 pub mod Lists
 pub mod Booking
+pub mod Carrying
 pub mod Taking
 pub mod Keeping
 pub mod Ending

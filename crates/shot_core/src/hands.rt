@@ -1,17 +1,18 @@
 // What an actor has in hand.
-ghost use Rattle.std.specs.Prelude.{◌≡◌, ◌<◌, ◌^◌, ℕ, IfOk, length, replicate, slice_index, slice_set};
-ghost use Rattle.flux_system.specs.System.{patches};
+ghost use Rattle.std.specs.Prelude.{◌≡◌, ◌<◌, ◌≤◌, ◌+◌, ◌*◌, ◌^◌, ℕ, IfOk, length, replicate, slice_index, slice_set};
+ghost use Rattle.flux_system.specs.System.{patches, scale};
 ghost use Rattle.shot_core.specs.Shots.{amounts_after, fractions_after};
 ghost use Rattle.shot_core.specs.Hands.{is_empty};
+ghost use Rattle.shot_core.specs.Shapes.{parts_with, with_batch};
 
-use crate::parts::pass_on;
+use crate::parts::{BILLION, SCALE, pass_on};
 use flux_ledger::Amounts;
 use flux_system::System;
 use std::alloc::{AllocError, Global};
 use std::marker::Model;
 
 // The most nanolumens that are passed on at once.
-const MOST_AT_ONCE: u64 = 10_000_000_000_000_000;
+pub(crate) const MOST_AT_ONCE: u64 = 10_000_000_000_000_000;
 
 /// What takes have passed on and nobody was given yet: for each patch whole nanolumens, and a fraction of one that
 /// stays in hand.
@@ -77,6 +78,27 @@ impl Hand {
         let amount = self.amounts.get(target);
         self.amounts.set(target, 0);
         amount
+    }
+
+    // Adds the sums of a batch, which are 0 from then on, and divides once for each patch.
+    pub(crate) fn carry(&mut self, highs: &mut Amounts, lows: &mut Amounts)
+        requires of_highs { length highs.old ≡ length self.old.amounts }
+        requires of_lows { length lows.old ≡ length self.old.amounts }
+        requires low { (j : ℕ) → j < length self.old.amounts → slice_index lows.old j ≤ 16 * 10 ^ 18 }
+        requires fits { (j : ℕ) → j < length self.old.amounts → scale * slice_index self.old.amounts j + parts_with highs.old lows.old self.old.fractions j < scale * 2 ^ 64 }
+        ensures hand { self.new ≡ with_batch self.old highs.old lows.old }
+        ensures highs { highs.new ≡ replicate (length self.old.amounts) 0 }
+        ensures lows { lows.new ≡ replicate (length self.old.amounts) 0 }
+    {
+        for j in 0..self.amounts.len() {
+            let high = highs.get(j);
+            let parts = high % 1_000 * BILLION + lows.get(j) + self.fractions.get(j);
+            let sum = self.amounts.get(j) + high / 1_000 + parts / SCALE;
+            self.amounts.set(j, sum);
+            self.fractions.set(j, parts % SCALE);
+            highs.set(j, 0);
+            lows.set(j, 0);
+        }
     }
 
     /// No patch is to be given anything.

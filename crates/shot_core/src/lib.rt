@@ -11,6 +11,7 @@
 #![tactic(auto)]
 
 mod accounts;
+mod batches;
 mod brightest;
 mod events;
 mod hands;
@@ -22,6 +23,7 @@ mod views;
 mod worlds;
 
 pub use accounts::{Account, DeskAccount, add_amounts};
+pub use batches::BatchHand;
 pub use events::{Event, Stepped};
 pub use hands::Hand;
 pub use roles::Role;

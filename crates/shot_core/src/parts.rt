@@ -1,16 +1,17 @@
 // What a shot passes on, in whole nanolumens and fractions of them.
-ghost use Rattle.std.specs.Prelude.{◌≡◌, ◌<◌, ◌≤◌, ◌*◌, ◌+◌, ◌/◌, ◌%◌, ◌^◌, ℕ, length, slice_index};
+ghost use Rattle.std.specs.Prelude.{◌≡◌, ◌<◌, ◌≤◌, ◌*◌, ◌+◌, ◌/◌, ◌%◌, ◌^◌, ℕ, All, length, slice_index};
 ghost use Rattle.flux_system.specs.System.{patches, scale};
+ghost use Rattle.flux_system.specs.Shapes.{share_in};
 ghost use Rattle.shot_core.specs.Shots.{parts_after, amounts_after, fractions_after};
 ghost use Rattle.shot_core.specs.Shapes.{AreSmall};
 
 use flux_ledger::Amounts;
-use flux_system::System;
+use flux_system::{Entry, System};
 
 /// The parts of a nanolumen that fractions are counted in.
-const SCALE: u64 = 1_000_000_000_000;
+pub(crate) const SCALE: u64 = 1_000_000_000_000;
 
-const BILLION: u64 = 1_000_000_000;
+pub(crate) const BILLION: u64 = 1_000_000_000;
 
 // The whole nanolumens of an old fraction and a product, and the rest of them, in parts of 10^-12 nanolumens.
 // The factor `high * 10^9 + low` comes in two parts, so that no number here needs more than 64 bits.
@@ -57,6 +58,26 @@ pub(crate) fn pass_on(
         let sum = residual.get(target) + amount;
         residual.set(target, sum);
         fractions.set(target, rest);
+    }
+}
+
+// Adds to the sums of each patch of a row its share, times the one factor and times the other.
+pub(crate) fn add_row(row: &[Entry], high: u64, low: u64, highs: &mut Amounts, lows: &mut Amounts)
+    requires lengths { length lows.old ≡ length highs.old }
+    requires inside { All (λ entry. entry.patch < length highs.old) row.now }
+    requires high { (j : ℕ) → j < length highs.old → slice_index highs.old j + high * share_in row.now j < 2 ^ 64 }
+    requires low { (j : ℕ) → j < length highs.old → slice_index lows.old j + low * share_in row.now j < 2 ^ 64 }
+    ensures lengths { (length highs.new ≡ length highs.old) × (length lows.new ≡ length highs.old) }
+    ensures highs { (j : ℕ) → j < length highs.old → slice_index highs.new j ≡ slice_index highs.old j + high * share_in row.now j }
+    ensures lows { (j : ℕ) → j < length highs.old → slice_index lows.new j ≡ slice_index lows.old j + low * share_in row.now j }
+{
+    for entry in row {
+        let target = entry.patch as usize;
+        let share = u64::from(entry.share);
+        let sum = highs.get(target) + high * share;
+        highs.set(target, sum);
+        let sum = lows.get(target) + low * share;
+        lows.set(target, sum);
     }
 }
 

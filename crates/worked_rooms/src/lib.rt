@@ -1,5 +1,5 @@
-//! Worked examples of rooms: directions, intensities and beams, patches, regions, placed luminaires, direct flux, shares and
-//! the light at grids of points.
+//! Worked examples of rooms: directions, intensities and beams, patches, regions, furniture, hidden places, placed
+//! luminaires, direct flux, shares and the light at grids of points.
 //!
 //! This crate has tests alone. The expected values come from calculations by hand or by other programs, and never from
 //! this one.
@@ -7,6 +7,10 @@
 
 #[cfg(test)]
 mod directions;
+#[cfg(test)]
+mod furniture;
+#[cfg(test)]
+mod hidden_places;
 #[cfg(test)]
 mod point_light;
 #[cfg(test)]

@@ -5,4 +5,6 @@
 #![tactic(auto)]
 
 #[cfg(test)]
+mod hands;
+#[cfg(test)]
 mod worlds;

@@ -72,7 +72,7 @@ fn assert_run(rt: &impl Abort, trial: &mut Trial, events: &[Event], moved: u64, 
     assert_words(rt, trial, words);
 }
 
-fn assert_numbers(rt: &impl Abort, numbers: &[u64], expected: &[u64]) {
+pub(crate) fn assert_numbers(rt: &impl Abort, numbers: &[u64], expected: &[u64]) {
     assert_eq!(rt; numbers, expected);
 }
 
@@ -92,7 +92,7 @@ fn assert_desk(
 }
 
 // A system of which nothing but its size is known, so that no proof of a test computes with its figures.
-fn system_of(
+pub(crate) fn system_of(
     alloc: Global,
     reflectance: &[u32],
     shares: &[u32],
@@ -384,10 +384,10 @@ fn three_actors_run(rt: HostRuntime) -> Result<(), Fail> {
 }
 
 // A take and numbers of a hand up to this fit together.
-const MOST_BOOKED: u64 = 1 << 62;
+pub(crate) const MOST_BOOKED: u64 = 1 << 62;
 
 // None of the numbers is greater.
-fn has_room(numbers: &[u64]) -> bool
+pub(crate) fn has_room(numbers: &[u64]) -> bool
     ensures { result ≡ list_all (λ number. nat_le number MOST_BOOKED) numbers.now }
 {
     numbers.iter().all(|number| *number <= MOST_BOOKED)

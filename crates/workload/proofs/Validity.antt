@@ -29,9 +29,12 @@ four_low wall low =
 pub generated_valid : (number : ℕ) → IsRoom (generated_room number)
 unfolding generated_room
 generated_valid number = record {
-  width = record { long = omega arith; short = omega arith; some = omega arith; few = omega arith };
-  depth = record { long = omega arith; short = omega arith; some = omega arith; few = omega arith };
-  height = record { long = omega arith; short = omega arith; some = omega arith; few = omega arith };
+  width = record { short = omega arith; some = omega arith; few = omega arith };
+  depth = record { short = omega arith; some = omega arith; few = omega arith };
+  height = record { short = omega arith; some = omega arith; few = omega arith };
+  wide = omega arith;
+  deep = omega arith;
+  high = omega arith;
   few = let few = few_patches (generated_room number) (omega arith) (omega arith) (omega arith) in omega arith;
   floor = omega arith;
   ceiling = omega arith;

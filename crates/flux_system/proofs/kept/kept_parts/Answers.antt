@@ -1,9 +1,11 @@
-use Rattle.std.proofs.Common.{Option, sym, subst}
-use Rattle.duties.specs.Duties.{Answers}
+use Rattle.std.proofs.Common.{Option, Result, Ok, Err, sym, subst}
+use Rattle.std.specs.Prelude.{OnOk}
+use Rattle.duties.specs.Duties.{first, Answers}
 use Rattle.flux_system.specs.declared.faults.SystemFault.{SystemFault}
 use Rattle.flux_system.specs.declared.faults.SystemFault.TheVariants.{Memory}
 use Rattle.flux_system.specs.System.{FluxSystem, coefficient}
-use Rattle.flux_system.proofs.Tests.{too_few, too_many, no_square, too_low, too_high, size_met, threshold_met, refused_by_size, refused_by_threshold, refused_by_reflectance, rows_decide, reflectances_met}
+use Rattle.flux_system.specs.Validity.{IsSystem, system_duties}
+use Rattle.flux_system.proofs.Tests.{too_few, too_many, no_square, too_low, too_high, size_met, threshold_met, refused_by_size, refused_by_threshold, refused_by_reflectance, rows_decide, reflectances_met, valid_where_met}
 use Rattle.flux_system.proofs.kept.kept_parts.Goals.{then-n-lt1-via-then-n-lt1, then-n-lt1-via-else-n-lt1+then-n-gt-MOST_PATCHES, then-n-lt1-via-else-n-lt1+else-n-gt-MOST_PATCHES+then-shares-n}
 use Rattle.flux_system.proofs.kept.kept_parts.Goals.{then-threshold-lt1-via-then-threshold-lt1, then-threshold-lt1-via-else-threshold-lt1+then-threshold-gt-MOST_THRESHOLD}
 use Rattle.flux_system.proofs.kept.kept_parts.Goals as goal
@@ -44,3 +46,10 @@ returns-clause-answer c =
 pub returns-clause-kept : goal.returns-clause-kept
 unfolding coefficient
 returns-clause-kept c = c.kept_rows.ensures.kept
+
+valid_where_ok : {T : Type 0} (s : FluxSystem) (result : Result T SystemFault) → Answers Memory (first (system_duties s)) result → OnOk result (IsSystem s)
+valid_where_ok s (Ok kept) met = valid_where_met s met
+valid_where_ok s (Err fault) met = tt
+
+pub returns-clause-valid : goal.returns-clause-valid
+returns-clause-valid c = valid_where_ok (record { threshold = c.args.threshold; reflectance = c.args.reflectance.now; shares = c.args.shares.now }) c.kept_rows.result (returns-clause-answer c)

@@ -2,6 +2,6 @@ use Rattle.std.proofs.Common.{[], ◌∷◌, ◌++◌, sym, ◌∙◌, arith}
 use Rattle.std.proofs.lemmas.List.FromFn.{map-range_with_len_more}
 use Rattle.flux_system.proofs.lists.empty_columns.Goals as goal
 
-pub loop-row-preserved : goal.loop-row-preserved
-loop-row-preserved c =
-    c.in_ok-push.ensures.items ∙ ((λ k. c.loop-row.invariant k ++ c.in_ok-with_capacity.ensures k ∷ []) ∙ sym (map-range_with_len_more _ 0 c.loop-row.row-index c.loop-row.row-index (omega arith)))
+pub loop-count-preserved : goal.loop-count-preserved
+loop-count-preserved c =
+    c.in_ok-push.ensures.items ∙ ((λ k. c.loop-count.invariant k ++ c.in_ok-with_capacity.ensures k ∷ []) ∙ sym (map-range_with_len_more _ 0 c.loop-count.count-index c.loop-count.count-index (omega arith)))

@@ -1,9 +1,10 @@
-use Rattle.std.proofs.Common.{◌≡◌, ◌<◌, length, get_or, ◌∙◌, arith}
+use Rattle.std.proofs.Common.{◌∙◌, arith}
 use Rattle.picker.proofs.Choices.{greatest_pick-is}
 use Rattle.picker.proofs.picks.greatest.Goals as goal
 
 pub returns-clause-place : goal.returns-clause-place
 returns-clause-place c =
-    let at : c.in_ok-value.field-0.now ≡ get_or c.args.values.now c.loop-place.best 0 = grind arith in
-    let inside : c.loop-place.best < length c.args.values.now = grind arith in
-    c.then_some.ensures ∙ greatest_pick-is c.args.values.now c.args.threshold c.loop-place.best c.in_ok-value.field-0.now at inside (grind arith) (grind arith)
+    let i = c.loop-place.invariant in
+    c.then_some.ensures
+    ∙ greatest_pick-is c.args.values.now c.args.threshold c.loop-place.best c.loop-place.most i.value i.inside (λ k h. let end = c.loop-place-test.false in let most = i.greatest k (omega arith) in let value = i.value in omega arith)
+    (λ k h. let first = i.first k h in let value = i.value in omega arith)

@@ -26,8 +26,8 @@ invariant_of-desk c =
     let seat = c.seat.invariant.0 in
     let same : s.pass.me.0.account.system ≡ v.system = search rules in
     let out : 0 < v.out = search rules in
-    let small : AreSmall s.hand.fractions = subst AreSmall (ap (λ (h : Holdings). h.fractions) c.hand.view_is) c.hand.invariant.1 in
+    let small : AreSmall s.hand.fractions = subst AreSmall (ap (λ (h : Holdings). h.fractions) (c.hand.view_is ∙ c.into_hand-hand.ensures)) c.hand.invariant.1 in
     let taken = c.add_amounts.ensures v.system (sym (ap length desk.taken ∙ desk.shape.of_taken)) ∙ ap (both v.system d.taken) c.as_slice.ensures in
-    let err = c.add_amounts-2.ensures v.system (sym (ap length desk.err ∙ desk.shape.of_err)) ∙ ap (both v.system d.err) c.fractions.ensures in
+    let err = c.add_amounts-2.ensures v.system (sym (ap length desk.err ∙ desk.shape.of_err)) ∙ ap (both v.system d.err) (c.fractions.ensures ∙ ap (λ (h : Holdings). h.fractions) c.into_hand-hand.ensures) in
     let layout = retired_layout d.taken d.err d.parts d.wins d.out v desk s.hand s.taken s.wins s.pass.me.0.account seat same out small _ _ taken err in
     subst (λ (m : Seated). DeskLayout c.add_amounts.new.sums c.add_amounts-2.new.sums (d.parts + 1) (d.wins + s.wins) (d.out - 1) m.0.account × (m.1 ≡ [])) (sym c.join_seat.ensures.2) (layout, c.desk.invariant.1)

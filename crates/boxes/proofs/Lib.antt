@@ -1,0 +1,4 @@
+pub mod Extents
+pub mod Counts
+pub mod Tests
+pub mod Valid

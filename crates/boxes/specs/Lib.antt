@@ -1,0 +1,4 @@
+pub mod Boxes
+pub mod FurnishedRooms
+pub mod Validity
+pub mod Shapes

@@ -1,0 +1,4 @@
+pub mod Hidden
+pub mod Stretches
+pub mod Facts
+pub mod Shapes
