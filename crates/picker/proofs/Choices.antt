@@ -12,7 +12,7 @@ use Rattle.std.proofs.lemmas.List.FromFn.{get_or-range_with_len, length-range_wi
 use Rattle.std.proofs.lemmas.List.Sums.{position_or_len_is, fails_before_first, passes_at_first}
 use Rattle.picker.specs.Greatest.{greatest_value}
 use Rattle.picker.specs.Picks.{reaches, first_reaching, greatest_pick, sweep_start, turned, sweep_pick, places, first_in_stripe, striped_pick, IsPick}
-use Rattle.picker.proofs.Maxima.{greatest_value-is, greatest_place-is}
+use Rattle.picker.proofs.Maxima.{greatest_value-is, greatest_place-is, value_below, is_reached}
 
 -- the first element that passes
 pub position-found : {X : Type 0} (p : X → Bool) (xs : List X) (i : ℕ) (d : X) → i < length xs → p (get_or xs i d) ≡ true → ((k : ℕ) → k < i → p (get_or xs k d) ≡ false) → position p xs ≡ Some i
@@ -84,6 +84,39 @@ IsPick-first_reaching xs t =
           let missing : ltb n (length xs) ≡ false = grind (arith, nat_tests) in
           let is : first_reaching xs t ≡ None = cond-false _ _ _ missing in
           subst (λ (r : Option ℕ). IsPick xs t r) (sym is) (IsPick-None xs t (λ k h. short_of _ _ (fails_before_first (reaches t) xs k 0 (omega arith))))
+    ]
+
+-- no value reaches more than the greatest does
+pub greatest_pick-none : (xs : List ℕ) (t : ℕ) → greatest_value xs < t → None ≡ greatest_pick xs t
+greatest_pick-none xs t short =
+    let test : (ltb 0 (length xs) && leb t (greatest_value xs)) ≡ false = and_right _ _ (reaches-false t (greatest_value xs) short) in
+    sym (cond-false _ _ _ test)
+
+-- the first that reaches the greatest value is its first place
+pub greatest_pick-first : (xs : List ℕ) (t : ℕ) → t ≤ greatest_value xs → (first_reaching xs (greatest_value xs) ≡ greatest_pick xs t) × IsPick xs t (first_reaching xs (greatest_value xs))
+greatest_pick-first xs t enough =
+    let most : ℕ = greatest_value xs in
+    let n : ℕ = position_or_len (reaches most) xs in
+    elim (cases_lt n (length xs)) [
+      | inl inside ↦
+          let is : first_reaching xs most ≡ Some n = cond-true _ _ _ (lt-ltb _ _ inside) in
+          let high = reached _ _ (passes_at_first (reaches most) xs 0 inside) in
+          let low = value_below xs n inside in
+          let at : most ≡ get_or xs n 0 = omega arith in
+          let first = greatest_pick-is xs t n most at inside (λ k h. let below = value_below xs k h in omega arith) (λ k h. let short = short_of _ _ (fails_before_first (reaches most) xs k 0 (omega arith)) in omega arith) in
+          let some : then_some (leb t most) n ≡ Some n = ap (λ (b : Bool). then_some b n) (reaches-true t most enough) in
+          (is ∙ (sym some ∙ first), subst (λ (r : Option ℕ). IsPick xs t r) (sym is) (IsPick-Some xs t n inside (omega arith)))
+      | inr past ↦
+          let missing : ltb n (length xs) ≡ false = grind (arith, nat_tests) in
+          let is : first_reaching xs most ≡ None = cond-false _ _ _ missing in
+          let short : (k : ℕ) → k < length xs → get_or xs k 0 < most = λ k h. short_of _ _ (fails_before_first (reaches most) xs k 0 (omega arith)) in
+          elim (cases_lt 0 (length xs)) [
+            | inl some ↦ absurd (is_reached xs some short)
+            | inr none ↦
+                let first : ltb 0 (length xs) ≡ false = grind (arith, nat_tests) in
+                let empty : (ltb 0 (length xs) && leb t most) ≡ false = and_left _ _ first in
+                (is ∙ sym (cond-false _ _ _ empty), subst (λ (r : Option ℕ). IsPick xs t r) (sym is) (IsPick-None xs t (λ k h. absurd (omega arith))))
+          ]
     ]
 
 -- round past the end

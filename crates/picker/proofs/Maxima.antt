@@ -1,5 +1,5 @@
 -- The greatest of some values, and where it stands first.
-use Rattle.std.proofs.Common.{◌≡◌, ℕ, ◌<◌, ◌≤◌, max, List, [], ◌∷◌, Bool, true, eqb, ltb, Option, Some, zero, suc, length, get_or, sym, ap, ◌∙◌, arith}
+use Rattle.std.proofs.Common.{◌≡◌, ℕ, ◌-◌, ◌<◌, ◌≤◌, max, List, [], ◌∷◌, Bool, true, eqb, ltb, Option, Some, zero, suc, length, get_or, sym, ap, ◌∙◌, arith}
 use Rattle.std.specs.List.{fold, position, position_or_len}
 use Rattle.std.specs.Prelude.{unwrap_or}
 use Rattle.std.proofs.lemmas.Bool.{eq-eqb, ne_eqb, lt-ltb, cond-true}
@@ -24,6 +24,23 @@ pub greatest_value-is : (xs : List ℕ) (b : ℕ) → b < length xs → ((k : �
 greatest_value-is xs b inside most =
     let up = each_below xs 0 b inside in
     let down = all_below xs 0 (get_or xs b 0) (omega arith) most in
+    omega arith
+
+-- the least number that no value exceeds
+pub greatest_value-least : (xs : List ℕ) (most : ℕ) → ((k : ℕ) → k < length xs → get_or xs k 0 ≤ most) → ((m : ℕ) → ((k : ℕ) → k < length xs → get_or xs k 0 ≤ m) → most ≤ m) → most ≡ greatest_value xs
+greatest_value-least xs most bound least =
+    let up = least (greatest_value xs) (λ k h. each_below xs 0 k h) in
+    let down = all_below xs 0 most (omega arith) bound in
+    omega arith
+
+pub value_below : (xs : List ℕ) (k : ℕ) → k < length xs → get_or xs k 0 ≤ greatest_value xs
+value_below xs k h = each_below xs 0 k h
+
+-- some value is the greatest one
+pub is_reached : (xs : List ℕ) → 0 < length xs → ((k : ℕ) → k < length xs → get_or xs k 0 < greatest_value xs) → ⊥
+is_reached xs some short =
+    let one = short 0 some in
+    let less = all_below xs 0 (greatest_value xs - 1) (omega arith) (λ k h. let below = short k h in omega arith) in
     omega arith
 
 -- the place whose value no other exceeds, and all before are below

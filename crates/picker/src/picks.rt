@@ -1,5 +1,6 @@
 // Rules that pick one of the places whose value reaches a threshold.
 ghost use Rattle.std.specs.Prelude.{◌≡◌, ◌<◌, ◌+◌, ◌++◌, IfSome, length};
+ghost use Rattle.picker.specs.Greatest.{greatest_value};
 ghost use Rattle.picker.specs.Picks.{first_reaching, greatest_pick, sweep_pick, striped_pick, IsPick};
 
 /// The first place of the greatest value, where that value reaches the threshold. None where no value does, as for no
@@ -8,15 +9,25 @@ pub fn greatest(values: &[u64], threshold: u64) -> Option<usize>
     ensures place { result ≡ greatest_pick values.now threshold }
     ensures pick { IsPick values.now threshold result }
 {
-    let mut most = *values.first()?;
-    let mut best = 0;
-    for (place, value) in values.iter().enumerate() {
+    let most = greatest_value(values);
+    if most < threshold {
+        return None;
+    }
+    first_reaching(values, most)
+}
+
+// The greatest value, 0 where there are none. The place is looked for apart, since the compiler makes faster code of each
+// of the two passes than of one that keeps both.
+fn greatest_value(values: &[u64]) -> u64
+    ensures { result ≡ greatest_value values.now }
+{
+    let mut most = 0;
+    for value in values {
         if *value > most {
             most = *value;
-            best = place;
         }
     }
-    (most >= threshold).then_some(best)
+    most
 }
 
 /// The first place whose value reaches the threshold, from place `offset` modulo the length on, round past the end to

@@ -1,4 +1,4 @@
-use Rattle.std.proofs.Common.{◌≡◌, ℕ, Option, ◌+◌, ◌≤◌, ◌<◌, ◌%◌, get_or, inl, inr, subst, sym, ap, ◌∙◌, arith}
+use Rattle.std.proofs.Common.{◌≡◌, ℕ, Option, ◌+◌, ◌%◌, get_or, inl, inr, subst, sym, ap, ◌∙◌, arith}
 use Rattle.std.proofs.lemmas.Bool.{cases_lt}
 use Rattle.std.proofs.Math.Nat.{add-mod_right}
 use Rattle.picker.specs.Picks.{IsPick}
@@ -26,7 +26,7 @@ loop-place-preserved c =
                   | inr not ↦ let same : j ≡ place = omega arith in let short = c.if-values-place.false in let at = ap (λ (k : ℕ). get_or c.args.values.now k 0) same in omega arith
                 ]
           ];
-      own = λ inside. let is : c.saturating_add-place.result ≡ place + c.args.m = omega (arith, c.type_inv.values) in ap (λ (k : ℕ). k % c.args.m) is ∙ (add-mod_right place c.args.m ∙ own);
+      own = λ inside. let is : c.saturating_add-place.result ≡ place + c.args.m = omega arith in ap (λ (k : ℕ). k % c.args.m) is ∙ (add-mod_right place c.args.m ∙ own);
     }
 
 pub returns-clause-place : goal.returns-clause-place
